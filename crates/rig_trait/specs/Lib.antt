@@ -1,0 +1,4 @@
+pub mod Rig
+pub mod Counts
+pub mod Memory
+pub mod Files

@@ -1,0 +1,215 @@
+//! A rig over the files of a folder and the standard output.
+
+ghost use Rattle.std.specs.Prelude.{◌≡◌, ◌+◌, ◌≤◌, ◌++◌, [], ◌∷◌, ◌<◌, length, take, false, IfOk, string_bytes, string_len, string_capacity};
+ghost use Rattle.std.specs.FinMap.{empty};
+ghost use Rattle.rig_trait.specs.Counts.{no_counts};
+ghost use Rattle.rig_trait.specs.Files.{area_file, handle_digits, HasRoom};
+
+use crate::counts::Counts;
+use crate::{Failed, Rig};
+use std::alloc::{AllocError, Global};
+use std::fs::File;
+use std::io::{ErrorKind, Write};
+use std::marker::Model;
+use std::os::unix::fs::FileExt;
+use std::{fs, io};
+
+/// The areas as files of a folder, and the standard output: the area of the module with handle 0xHHHHHHHH is the
+/// file `dimm-HHHHHHHH.lsa`, with eight lower case digits. What files hold is outside of what is proved, so it
+/// tells no areas and nothing said.
+///
+/// A missing file, or a missing folder, is no area. A path that is there and is no regular file fails, as does a
+/// range outside of the file. It takes memory when it is made, and never later.
+#[derive(Drop)]
+pub struct FileRig {
+    rt: HostRuntime,
+    /// The path of the area's file that was last asked for. It has the memory of the path of any of them.
+    path: String,
+    folder_len: usize,
+    counts: Counts,
+}
+
+impl Model for FileRig {
+    ghost use Rattle.rig_trait.specs.declared.counts.Counts.{Counts};
+    ghost use Rattle.rig_trait.specs.Counts.{counts_code};
+    ghost use Rattle.rig_trait.specs.Files.{HasRoom};
+
+    ghost Value = { Counts };
+
+    ghost coded = { counts_code };
+
+    ghost view = { λ rig. rig.counts };
+
+    ghost invariant = { λ rig. HasRoom rig.path rig.folder_len };
+}
+
+impl FileRig {
+    /// The rig over the files of the folder `dir`, which needn't be there.
+    pub fn new(rt: HostRuntime, alloc: Global, dir: &str) -> Result<FileRig, AllocError>
+        ensures { IfOk result (λ rig. rig ≡ no_counts) }
+    {
+        let folder_len = dir.len();
+        let mut path = String::with_capacity(alloc, folder_len + "/dimm-00000000.lsa".len())?;
+        push_str(&mut path, dir);
+        Ok(FileRig {
+            rt,
+            path,
+            folder_len,
+            counts: Counts::new(),
+        })
+    }
+
+    /// The size of the file of an area, whose path it sets.
+    fn file_size(&mut self, dimm: u32) -> io::Result<u64>
+        ensures { self.new ≡ self.old }
+    {
+        set_area(&mut self.path, self.folder_len, dimm);
+        // Opening a pipe could wait for ever, so this looks at the path first.
+        let metadata = fs::metadata(&self.rt, self.path.as_str())?;
+        if !metadata.is_file() {
+            return Err(ErrorKind::InvalidInput.into());
+        }
+        Ok(metadata.len())
+    }
+
+    fn try_size(&mut self, dimm: u32) -> io::Result<Option<u64>>
+        ensures { self.new ≡ self.old }
+    {
+        match self.file_size(dimm) {
+            Ok(size) => Ok(Some(size)),
+            Err(error) if error.kind() == ErrorKind::NotFound => Ok(None),
+            Err(error) => Err(error),
+        }
+    }
+
+    fn try_read(&mut self, dimm: u32, at: u64, into: &mut [u8]) -> io::Result<()>
+        ensures { self.new ≡ self.old }
+    {
+        let size = self.file_size(dimm)?;
+        if at > size || size - at < into.len() as u64 {
+            return Err(ErrorKind::UnexpectedEof.into());
+        }
+        let file = File::open(&self.rt, self.path.as_str())?;
+        file.read_exact_at(into, at)
+    }
+
+    fn try_say(&self, bytes: &[u8]) -> io::Result<()> {
+        let mut out = self.rt.stdout();
+        out.write_all(bytes)?;
+        out.flush()
+    }
+}
+
+/// Sets a path to that of an area's file, within the memory that the path has.
+fn set_area(path: &mut String, folder_len: usize, dimm: u32)
+    requires { HasRoom path.old folder_len }
+    ensures bytes { string_bytes path.new ≡ take folder_len (string_bytes path.old) ++ area_file dimm }
+    ensures room { HasRoom path.new folder_len }
+{
+    path.truncate(folder_len);
+    push_str(path, "/dimm-");
+    push_digits(path, dimm);
+    push_str(path, ".lsa");
+}
+
+/// Appends the eight hexadecimal digits of a handle, for which there is room.
+fn push_digits(path: &mut String, dimm: u32)
+    requires { string_len path.old + 8 ≤ string_capacity path.old }
+    ensures bytes { string_bytes path.new ≡ string_bytes path.old ++ handle_digits dimm }
+    ensures len { string_len path.new ≡ string_len path.old + 8 }
+    ensures capacity { string_capacity path.old ≤ string_capacity path.new }
+{
+    for place in [7u32, 6, 5, 4, 3, 2, 1, 0] {
+        let digit = (dimm >> (4 * place)) % 16;
+        push(path, char::from_digit(digit, 16).unwrap());
+    }
+}
+
+/// Appends text for which there is room.
+fn push_str(path: &mut String, text: &str)
+    requires { string_len path.old + length text.now ≤ string_capacity path.old }
+    ensures bytes { string_bytes path.new ≡ string_bytes path.old ++ text.now }
+    ensures len { string_len path.new ≡ string_len path.old + length text.now }
+    ensures capacity { string_capacity path.old ≤ string_capacity path.new }
+{
+    if path.push_str(text).is_err() {
+        unreachable!()
+    }
+}
+
+/// Appends an ASCII character for which there is room.
+fn push(path: &mut String, character: char)
+    requires ascii { character < 128 }
+    requires room { string_len path.old < string_capacity path.old }
+    ensures bytes { string_bytes path.new ≡ string_bytes path.old ++ character ∷ [] }
+    ensures len { string_len path.new ≡ string_len path.old + 1 }
+    ensures capacity { string_capacity path.old ≤ string_capacity path.new }
+{
+    if path.push(character).is_err() {
+        unreachable!()
+    }
+}
+
+impl Rig for FileRig {
+    ghost tells = { λ _. false };
+
+    ghost areas = { λ _. empty };
+
+    ghost said = { λ _. [] };
+
+    ghost faults = { λ rig. rig.faults };
+
+    ghost say_faults = { λ rig. rig.say_faults };
+
+    ghost failed_dimm = { λ rig. rig.failed_dimm };
+
+    ghost reads = { λ rig. rig.reads };
+
+    fn size(&mut self, dimm: u32) -> Result<Option<u64>, Failed> {
+        self.counts.count_read();
+        match self.try_size(dimm) {
+            Ok(size) => Ok(size),
+            Err(_) => {
+                self.counts.count_fault(dimm);
+                Err(Failed)
+            }
+        }
+    }
+
+    fn read(&mut self, dimm: u32, at: u64, into: &mut [u8]) -> Result<(), Failed> {
+        self.counts.count_read();
+        match self.try_read(dimm, at, into) {
+            Ok(()) => Ok(()),
+            Err(_) => {
+                self.counts.count_fault(dimm);
+                Err(Failed)
+            }
+        }
+    }
+
+    fn say(&mut self, bytes: &[u8]) -> Result<(), Failed> {
+        match self.try_say(bytes) {
+            Ok(()) => Ok(()),
+            Err(_) => {
+                self.counts.count_say_fault();
+                Err(Failed)
+            }
+        }
+    }
+
+    fn faults(&self) -> u64 {
+        self.counts.faults
+    }
+
+    fn say_faults(&self) -> u64 {
+        self.counts.say_faults
+    }
+
+    fn failed_dimm(&self) -> u32 {
+        self.counts.failed_dimm
+    }
+
+    fn reads(&self) -> u64 {
+        self.counts.reads
+    }
+}

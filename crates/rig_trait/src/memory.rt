@@ -1,0 +1,215 @@
+//! A rig in memory.
+
+ghost use Rattle.std.specs.Prelude.{◌≡◌, ◌≤◌, ◌<◌, ◌+◌, ◌-◌, ◌^◌, ℕ, ◌++◌, ◌↔◌, ◌⊎◌, min, length, take, true, IsTrue, IsErr, IfOk, OnOk, OnErr, Contains};
+ghost use Rattle.std.specs.Option.{option_copied, option_map};
+ghost use Rattle.std.specs.FinMap.{get, insert};
+ghost use Rattle.byte_ranges.specs.Ranges.{range};
+ghost use Rattle.rig_trait.specs.Rig.{area, IsWithin, HasCause, HasRisen};
+ghost use Rattle.rig_trait.specs.Counts.{one_more, read_counted, fault_counted, say_fault_counted};
+ghost use Rattle.rig_trait.specs.Memory.{new_memory};
+
+use crate::counts::Counts;
+use crate::{Failed, Rig};
+use std::alloc::{AllocError, Global};
+use std::collections::BTreeMap;
+use std::marker::Model;
+
+/// A rig in memory, which always tells its areas and what was said. It fails at the calls that are listed, and at a
+/// `say` past its room, and nowhere else.
+#[derive(Drop)]
+pub struct MemoryRig {
+    areas: BTreeMap<u32, Vec<u8>>,
+    said: Vec<u8>,
+    room: u64,
+    listed: Vec<u64>,
+    calls: u64,
+    counts: Counts,
+}
+
+impl Model for MemoryRig {
+    ghost use Rattle.std.specs.Prelude.{◌≤◌, vec_len, vec_capacity};
+    ghost use Rattle.rig_trait.specs.Memory.{Memory, memory_code, areas_of};
+
+    ghost Value = { Memory };
+
+    ghost coded = { memory_code };
+
+    ghost view = { λ rig. record { areas = areas_of rig.areas; said = rig.said.items; room = rig.room; listed = rig.listed.items; calls = rig.calls; counts = rig.counts } };
+
+    ghost invariant = { λ rig. (vec_len rig.said ≤ rig.room) × (rig.room ≤ vec_capacity rig.said) };
+}
+
+impl MemoryRig {
+    /// A rig without areas, in which `room` bytes can be said. It takes the memory of these bytes at once.
+    pub fn new(alloc: Global, room: u64) -> Result<MemoryRig, AllocError>
+        ensures { IfOk result (λ rig. rig ≡ new_memory room) }
+    {
+        Ok(MemoryRig {
+            areas: BTreeMap::new(alloc),
+            said: Vec::with_capacity(alloc, room as usize)?,
+            room,
+            listed: Vec::new(alloc),
+            calls: 0,
+            counts: Counts::new(),
+        })
+    }
+
+    /// Places an area, in place of one that the handle has already.
+    pub fn add(&mut self, dimm: u32, bytes: Vec<u8>) -> Result<(), AllocError>
+        ensures ok { OnOk result (self.new ≡ record self.old { areas = insert self.old.areas dimm bytes.items }) }
+        ensures err { OnErr result (self.new ≡ self.old) }
+    {
+        self.areas.insert(dimm, bytes)?;
+        Ok(())
+    }
+
+    /// Lists the calls of `size`, `read` and `say` that fail, by their numbers from 0 since the rig was made, in
+    /// place of those listed before.
+    pub fn fail_at(&mut self, calls: Vec<u64>)
+        ensures { self.new ≡ record self.old { listed = calls.items } }
+    {
+        self.listed = calls;
+    }
+
+    /// The bytes of an area, and `None` where the handle has none.
+    pub fn area(&self, dimm: u32) -> Option<&[u8]>
+        ensures { option_copied result ≡ get self.now.areas dimm }
+    {
+        match self.areas.get(&dimm) {
+            Some(bytes) => Some(bytes.as_slice()),
+            None => None,
+        }
+    }
+
+    /// The bytes said.
+    pub fn said(&self) -> &[u8]
+        ensures { result.now ≡ self.now.said }
+    {
+        &self.said
+    }
+}
+
+impl MemoryRig {
+    /// Counts a call, and says whether it is listed.
+    fn is_listed(&mut self) -> bool
+        ensures listed { IsTrue result ↔ Contains self.old.listed self.old.calls }
+        ensures counted { self.new ≡ record self.old { calls = one_more self.old.calls } }
+    {
+        let call = self.calls;
+        self.calls = call.saturating_add(1);
+        self.listed.contains(&call)
+    }
+}
+
+impl Rig for MemoryRig {
+    ghost tells = { λ _. true };
+
+    ghost areas = { λ rig. rig.areas };
+
+    ghost said = { λ rig. rig.said };
+
+    ghost faults = { λ rig. rig.counts.faults };
+
+    ghost say_faults = { λ rig. rig.counts.say_faults };
+
+    ghost failed_dimm = { λ rig. rig.counts.failed_dimm };
+
+    ghost reads = { λ rig. rig.counts.reads };
+
+    fn size(&mut self, dimm: u32) -> Result<Option<u64>, Failed>
+        // It fails at the listed calls alone, and changes its counts alone.
+        ensures listed { IsErr result ↔ Contains self.old.listed self.old.calls }
+        ensures ok { OnOk result (self.new ≡ record self.old { calls = one_more self.old.calls; counts = read_counted self.old.counts }) }
+        ensures err { OnErr result (self.new ≡ record self.old { calls = one_more self.old.calls; counts = fault_counted dimm (read_counted self.old.counts) }) }
+
+        ensures size { IsTrue true → IfOk result (λ size. size ≡ option_map length (get self.old.areas dimm)) }
+        ensures areas { self.new.areas ≡ self.old.areas }
+        ensures said { self.new.said ≡ self.old.said }
+        ensures tells { true ≡ true }
+        ensures cause { HasCause self.old.counts.faults self.new.counts.faults result }
+        ensures say_faults { self.new.counts.say_faults ≡ self.old.counts.say_faults }
+        ensures failed_dimm { OnErr result (self.new.counts.failed_dimm ≡ dimm) }
+        ensures failed_dimm_kept { OnOk result (self.new.counts.failed_dimm ≡ self.old.counts.failed_dimm) }
+        ensures reads { HasRisen self.old.counts.reads self.new.counts.reads }
+        ensures reads_later { self.old.counts.reads ≤ self.new.counts.reads }
+    {
+        self.counts.count_read();
+        if self.is_listed() {
+            self.counts.count_fault(dimm);
+            return Err(Failed);
+        }
+        Ok(self.area(dimm).map(|bytes| bytes.len() as u64))
+    }
+
+    fn read(&mut self, dimm: u32, at: u64, into: &mut [u8]) -> Result<(), Failed>
+        requires { IsTrue true → IsWithin self.old.areas dimm at (length into.old) }
+        ensures listed { IsErr result ↔ Contains self.old.listed self.old.calls }
+        ensures ok { OnOk result (self.new ≡ record self.old { calls = one_more self.old.calls; counts = read_counted self.old.counts }) }
+        ensures err { OnErr result (self.new ≡ record self.old { calls = one_more self.old.calls; counts = fault_counted dimm (read_counted self.old.counts) }) }
+
+        ensures bytes { IsTrue true → OnOk result (into.new ≡ range (area self.old.areas dimm) at (length into.old)) }
+        ensures areas { self.new.areas ≡ self.old.areas }
+        ensures said { self.new.said ≡ self.old.said }
+        ensures tells { true ≡ true }
+        ensures cause { HasCause self.old.counts.faults self.new.counts.faults result }
+        ensures say_faults { self.new.counts.say_faults ≡ self.old.counts.say_faults }
+        ensures failed_dimm { OnErr result (self.new.counts.failed_dimm ≡ dimm) }
+        ensures failed_dimm_kept { OnOk result (self.new.counts.failed_dimm ≡ self.old.counts.failed_dimm) }
+        ensures reads { HasRisen self.old.counts.reads self.new.counts.reads }
+        ensures reads_later { self.old.counts.reads ≤ self.new.counts.reads }
+    {
+        self.counts.count_read();
+        if self.is_listed() {
+            self.counts.count_fault(dimm);
+            return Err(Failed);
+        }
+        if let Some(bytes) = self.area(dimm) {
+            let at = at as usize;
+            into.copy_from_slice(&bytes[at..at + into.len()]);
+        }
+        Ok(())
+    }
+
+    fn say(&mut self, bytes: &[u8]) -> Result<(), Failed>
+        // It fails at the listed calls and past the room alone, and says nothing then.
+        ensures listed_or_full { IsErr result ↔ (Contains self.old.listed self.old.calls ⊎ (self.old.room < length self.old.said + length bytes.now)) }
+        ensures ok { OnOk result (self.new ≡ record self.old { said = self.old.said ++ bytes.now; calls = one_more self.old.calls }) }
+        ensures err { OnErr result (self.new ≡ record self.old { calls = one_more self.old.calls; counts = say_fault_counted self.old.counts }) }
+
+        ensures all { IsTrue true → OnOk result (self.new.said ≡ self.old.said ++ bytes.now) }
+        ensures front { IsTrue true → (n : ℕ) × (self.new.said ≡ self.old.said ++ take n bytes.now) }
+        ensures areas { self.new.areas ≡ self.old.areas }
+        ensures tells { true ≡ true }
+        ensures cause { HasCause self.old.counts.say_faults self.new.counts.say_faults result }
+        ensures faults { self.new.counts.faults ≡ self.old.counts.faults }
+        ensures failed_dimm { self.new.counts.failed_dimm ≡ self.old.counts.failed_dimm }
+        ensures reads { self.new.counts.reads ≡ self.old.counts.reads }
+    {
+        let free = self.room as usize - self.said.len();
+        if self.is_listed() || free < bytes.len() {
+            self.counts.count_say_fault();
+            return Err(Failed);
+        }
+        match self.said.extend_from_slice(bytes) {
+            Ok(()) => Ok(()),
+            // The memory of the room was taken when the rig was made.
+            Err(_) => unreachable!(),
+        }
+    }
+
+    fn faults(&self) -> u64 {
+        self.counts.faults
+    }
+
+    fn say_faults(&self) -> u64 {
+        self.counts.say_faults
+    }
+
+    fn failed_dimm(&self) -> u32 {
+        self.counts.failed_dimm
+    }
+
+    fn reads(&self) -> u64 {
+        self.counts.reads
+    }
+}

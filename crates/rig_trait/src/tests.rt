@@ -1,0 +1,200 @@
+ghost use Rattle.std.specs.Prelude.{◌+◌, ◌≤◌, length, vec_len};
+
+use super::*;
+use std::alloc::AllocError;
+use std::fs;
+use std::test::Fail;
+
+/// Places an area, and reads from it.
+fn read_added(
+    rig: &mut MemoryRig,
+    dimm: u32,
+    bytes: Vec<u8>,
+    at: u64,
+    into: &mut [u8],
+) -> Result<Result<(), Failed>, AllocError>
+    requires { at + length into.old ≤ vec_len bytes }
+{
+    rig.add(dimm, bytes)?;
+    Ok(rig.read(dimm, at, into))
+}
+
+/// Reads an area whose size is that of `into`, and says whether there is one.
+fn read_whole<R: Rig>(rig: &mut R, dimm: u32, into: &mut [u8]) -> Result<bool, Failed> {
+    match rig.size(dimm)? {
+        Some(size) if size == into.len() as u64 => {
+            rig.read(dimm, 0, into)?;
+            Ok(true)
+        }
+        _ => Ok(false),
+    }
+}
+
+fn answer<T: Drop>(is_ok: bool, value: T) -> Result<T, Failed> {
+    if is_ok { Ok(value) } else { Err(Failed) }
+}
+
+/// The calls are the size of an area, the size of none, a read, texts of 3, 3 and 2 bytes in a room of 5, and the
+/// two calls that read the whole of an area.
+#[test]
+fn memory_calls(rt: HostRuntime) -> Result<(), Fail> {
+    let alloc = rt.alloc();
+    for (listed, is_ok, said, faults, say_faults, failed_dimm) in [
+        (
+            0,
+            [false, true, true, true, false, true, true],
+            "abcde",
+            1,
+            1,
+            0x1,
+        ),
+        (
+            1,
+            [true, false, true, true, false, true, true],
+            "abcde",
+            1,
+            1,
+            0x2,
+        ),
+        (
+            2,
+            [true, true, false, true, false, true, true],
+            "abcde",
+            1,
+            1,
+            0x101,
+        ),
+        (
+            3,
+            [true, true, true, false, true, true, true],
+            "defde",
+            0,
+            1,
+            0,
+        ),
+        (
+            4,
+            [true, true, true, true, false, true, true],
+            "abcde",
+            0,
+            1,
+            0,
+        ),
+        (
+            5,
+            [true, true, true, true, false, false, true],
+            "abc",
+            0,
+            2,
+            0,
+        ),
+        (
+            6,
+            [true, true, true, true, false, true, false],
+            "abcde",
+            0,
+            1,
+            0,
+        ),
+        (
+            7,
+            [true, true, true, true, false, true, false],
+            "abcde",
+            0,
+            1,
+            0,
+        ),
+        (
+            8,
+            [true, true, true, true, false, true, true],
+            "abcde",
+            0,
+            1,
+            0,
+        ),
+    ] {
+        let mut rig = MemoryRig::new(alloc, 5)?;
+        rig.add(0x1, Vec::from_array(alloc, [7, 8])?)?;
+        rig.add(0x1, Vec::from_array(alloc, [9])?)?;
+        rig.fail_at(Vec::from_array(alloc, [listed])?);
+        assert_eq!(rt; rig.size(0x1), answer(is_ok[0], Some(1)), "at {listed}");
+        assert_eq!(rt; rig.size(0x2), answer(is_ok[1], None), "at {listed}");
+        let area = Vec::from_array(alloc, [10, 11, 12, 13, 14, 15])?;
+        let mut bytes = [0; 3];
+        let read = read_added(&mut rig, 0x101, area, 2, &mut bytes)?;
+        assert_eq!(rt; read, answer(is_ok[2], ()), "at {listed}");
+        if is_ok[2] {
+            assert_eq!(rt; bytes, [12, 13, 14]);
+        }
+        assert_eq!(rt; rig.say(b"abc"), answer(is_ok[3], ()), "at {listed}");
+        assert_eq!(rt; rig.say(b"def"), answer(is_ok[4], ()), "at {listed}");
+        assert_eq!(rt; rig.say(b"de"), answer(is_ok[5], ()), "at {listed}");
+        assert_eq!(rt; rig.said(), said.as_bytes(), "at {listed}");
+        assert_eq!(rt; rig.faults(), faults, "at {listed}");
+        assert_eq!(rt; rig.say_faults(), say_faults, "at {listed}");
+        assert_eq!(rt; rig.failed_dimm(), failed_dimm, "at {listed}");
+        assert_eq!(rt; rig.reads(), 3, "at {listed}");
+        assert_eq!(rt; rig.area(0x1), Some([9].as_slice()));
+        assert_eq!(rt; rig.area(0x2), None);
+
+        let mut whole = [0];
+        assert_eq!(rt;
+            read_whole(&mut rig, 0x1, &mut whole),
+            answer(is_ok[6], true),
+            "at {listed}"
+        );
+        if is_ok[6] {
+            assert_eq!(rt; whole, [9]);
+        }
+    }
+    Ok(())
+}
+
+/// The calls of a rig over files, in the folder where the test runs.
+#[test]
+fn file_calls(rt: HostRuntime) -> Result<(), Fail> {
+    let alloc = rt.alloc();
+    let mut bytes = [0; 300];
+    for (i, byte) in bytes.iter_mut().enumerate() {
+        *byte = (i % 251) as u8;
+    }
+    fs::write(&rt, "dimm-00000101.lsa", bytes.as_slice())?;
+    fs::create_dir(&rt, "dimm-0000abcd.lsa")?;
+
+    let mut rig = FileRig::new(rt, alloc, ".")?;
+    let mut whole = [0; 300];
+    assert_eq!(rt; read_whole(&mut rig, 0x101, &mut whole), Ok(true));
+    assert_eq!(rt; whole, bytes);
+    let mut part = [0; 60];
+    assert_eq!(rt; rig.read(0x101, 240, &mut part), Ok(()));
+    assert_eq!(rt; part.as_slice(), &bytes[240..]);
+    assert_eq!(rt; rig.read(0x101, 300, &mut []), Ok(()));
+    assert_eq!(rt; (rig.faults(), rig.failed_dimm()), (0, 0));
+
+    assert_eq!(rt; rig.read(0x101, 241, &mut part), Err(Failed));
+    assert_eq!(rt; rig.read(0x101, 301, &mut []), Err(Failed));
+    assert_eq!(rt; rig.read(0x101, u64::MAX, &mut part), Err(Failed));
+    assert_eq!(rt; (rig.faults(), rig.failed_dimm()), (3, 0x101));
+
+    assert_eq!(rt; rig.size(0xabcd), Err(Failed));
+    assert_eq!(rt; rig.read(0xabcd, 0, &mut part), Err(Failed));
+    assert_eq!(rt; (rig.faults(), rig.failed_dimm()), (5, 0xabcd));
+    assert_eq!(rt; rig.size(0x2), Ok(None));
+    assert_eq!(rt; (rig.faults(), rig.failed_dimm()), (5, 0xabcd));
+    assert_eq!(rt; rig.read(0x2, 0, &mut []), Err(Failed));
+    assert_eq!(rt; (rig.faults(), rig.failed_dimm()), (6, 0x2));
+    assert_eq!(rt; rig.size(0x101), Ok(Some(300)));
+    assert_eq!(rt; rig.say(b"said\n"), Ok(()));
+    assert_eq!(rt; (rig.reads(), rig.say_faults()), (12, 0));
+    assert_eq!(rt; fs::exists(&rt, "dimm-00000002.lsa")?, false);
+
+    // A folder that isn't there has no areas, and a file is no folder.
+    assert_eq!(rt; FileRig::new(rt, alloc, "absent")?.size(0x101), Ok(None));
+    let mut in_file = FileRig::new(rt, alloc, "dimm-00000101.lsa")?;
+    assert_eq!(rt; in_file.size(0x101), Err(Failed));
+    assert_eq!(rt; (in_file.faults(), in_file.failed_dimm()), (1, 0x101));
+
+    fs::remove_file(&rt, "dimm-00000101.lsa")?;
+    fs::remove_dir(&rt, "dimm-0000abcd.lsa")?;
+    Ok(())
+}
