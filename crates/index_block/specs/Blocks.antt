@@ -1,0 +1,95 @@
+-- What makes an index block signed, and usable (UEFI 2.7, section 13.19). A window is the bytes from the block's place
+-- to the end of the area, at most 4,096. All numbers are little-endian.
+--
+--     offset  bytes  field
+--          0     16  Sig        "NAMESPACE_INDEX" and a zero byte
+--         16      3  Flags      not looked at
+--         19      1  LabelSize  labels have 128 * 2^LabelSize bytes
+--         20      4  Seq        its two low bits are the sequence number
+--         24      8  MyOff      the offset of this block
+--         32      8  MySize     the size of this block
+--         40      8  OtherOff   the offset of the other block
+--         48      8  LabelOff   the offset of slot 0
+--         56      4  NSlot      how many slots there are
+--         60      2  Major      the version is Major.Minor
+--         62      2  Minor
+--         64      8  Checksum   of the MySize bytes, with this field as zero
+--         72         Free       a bit for each slot, 1 where it is free; then bytes that are not looked at
+use Rattle.std.specs.Prelude.{ℕ, ◌%◌, ◌==◌, ◌&&◌, Bool, List, [], ◌∷◌, ◌++◌, length, drop, codes, if◌then◌else◌, nat_eq, nat_le, not, slice_index}
+use Rattle.std.specs.List.{starts_with}
+use Rattle.byte_ranges.specs.Ranges.{range, number_at}
+use Rattle.fletcher64.specs.Sums.{checksum_but}
+use Rattle.index_block.specs.declared.geometry.Geometry.{Geometry}
+use Rattle.index_block.specs.declared.geometry.Place.{Place}
+use Rattle.index_block.specs.declared.blocks.BlockKind.{BlockKind}
+use Rattle.index_block.specs.declared.blocks.BlockKind.TheVariants.{Unsigned, Foreign, Usable}
+use Rattle.index_block.specs.Current.{IsSeq}
+use Rattle.index_block.specs.Geometry.{place_offset, other_place, slot_offset}
+
+abbrev pub signature : List ℕ
+signature = codes "NAMESPACE_INDEX" ++ 0 ∷ []
+
+abbrev pub my_size : List ℕ → ℕ
+my_size window = number_at 8 window 32
+
+-- the sequence number
+abbrev pub seq_of : List ℕ → ℕ
+seq_of window = number_at 4 window 20 % 4
+
+-- the block's size is one that a block can have, and the window holds it
+abbrev pub has_size : List ℕ → Bool
+has_size window = (my_size window % 256 == 0) && nat_le 256 (my_size window) && nat_le (my_size window) (length window)
+
+-- the checksum is that of the block's bytes
+abbrev pub has_checksum : List ℕ → Bool
+has_checksum window = number_at 8 window 64 == checksum_but (range window 0 (my_size window)) 64
+
+-- a sound block stands at the front of the window, written for this place or for another
+unfoldable pub is_signed : List ℕ → Bool
+is_signed window = starts_with nat_eq window signature && has_size window && has_checksum window
+
+-- its own offset and size, and the offsets of the other block and of slot 0, are those of the place
+abbrev pub has_offsets : Place → Geometry → List ℕ → Bool
+has_offsets place g window = (number_at 8 window 24 == place_offset g place)
+    && (my_size window == g.block)
+    && (number_at 8 window 40 == place_offset g (other_place place))
+    && (number_at 8 window 48 == slot_offset g 0)
+
+-- LabelSize for labels of this many bytes
+abbrev pub label_size_of : ℕ → ℕ
+label_size_of label = if label == 128 then 0 else 1
+
+-- the minor version for labels of this many bytes
+abbrev pub minor_of : ℕ → ℕ
+minor_of label = if label == 128 then 1 else 2
+
+-- the size and the number of its labels are those of the geometry, and the version is the one for labels of that size
+abbrev pub has_labels : Geometry → List ℕ → Bool
+has_labels g window = (slice_index window 19 == label_size_of g.label)
+    && (number_at 4 window 56 == g.slots)
+    && (number_at 2 window 60 == 1)
+    && (number_at 2 window 62 == minor_of g.label)
+
+-- the fields are those of the place in the geometry
+unfoldable pub has_fields : Place → Geometry → List ℕ → Bool
+has_fields place g window = has_offsets place g window && has_labels g window
+
+-- it was written for this place, with a sequence number
+unfoldable pub is_usable : Place → Geometry → List ℕ → Bool
+is_usable place g window = is_signed window && not (seq_of window == 0) && has_fields place g window
+
+-- what stands at a place, of the three
+abbrev pub kind_of : Place → Geometry → List ℕ → BlockKind
+kind_of place g window = if is_usable place g window then Usable (seq_of window)
+    else if is_signed window then Foreign
+    else Unsigned
+
+-- a usable block has a sequence number
+abbrev pub IsNumbered : BlockKind → Type 0
+IsNumbered (Usable seq) = IsSeq seq
+IsNumbered Foreign = Unit {0}
+IsNumbered Unsigned = Unit {0}
+
+-- the bitmap behind the fields
+abbrev pub free_map : List ℕ → List ℕ
+free_map window = drop 72 window

@@ -1,0 +1,4 @@
+pub mod Geometry
+pub mod Blocks
+pub mod Current
+pub mod Bitmap
