@@ -1,0 +1,67 @@
+-- The words of a command line, and the form that they are.
+use Rattle.std.specs.Prelude.{ℕ, ◌^◌, ◌&&◌, Bool, List, [], ◌∷◌, ◌++◌, Option, Some, None, codes, drop, if◌then◌else◌, length, nat_eq, nat_le, nat_lt, not, slice_get, unwrap_or, String}
+use Rattle.std.specs.declared.alloc.Global.{Global}
+use Rattle.std.specs.Char.{is_digit}
+use Rattle.std.specs.List.{after_first, before_first, list_all, list_any, starts_with}
+use Rattle.std.specs.Option.{option_map}
+use Rattle.std.specs.Str.{bytes_eq}
+use Rattle.std.specs.Str.Parse.{digits_value}
+use Rattle.std.specs.String.{string_bytes}
+use Rattle.nd_cli.specs.declared.words.Form.{Form}
+use Rattle.nd_cli.specs.declared.words.Form.TheVariants.{Labels}
+
+-- a word of the command line
+abbrev pub Word : Type 0
+Word = String Global
+
+-- the word is `--`
+abbrev pub is_dashes : Word → Bool
+is_dashes word = bytes_eq (string_bytes word) (codes "--")
+
+-- the word begins with `-`, and is not `-` alone
+abbrev pub is_option : Word → Bool
+is_option word =
+    starts_with nat_eq (string_bytes word) (codes "-") && not (bytes_eq (string_bytes word) (codes "-"))
+
+-- the words without a first `--`
+abbrev pub operands : List Word → List Word
+operands words = before_first is_dashes words ++ after_first is_dashes words
+
+-- 1 to `most` digits of a base, and nothing else
+abbrev pub is_numeral : ℕ → ℕ → List ℕ → Bool
+is_numeral base most text = nat_le 1 (length text) && nat_le (length text) most && list_all (λ c. is_digit c base) text
+
+-- the number that they write
+abbrev pub numeral : ℕ → ℕ → List ℕ → Option ℕ
+numeral base most text = if is_numeral base most text then Some (digits_value base text) else None
+
+-- the number, where there is one and it is below a bound
+abbrev pub below : ℕ → Option ℕ → Option ℕ
+below bound (Some n) = if nat_lt n bound then Some n else None
+below bound None = None
+
+-- a number: 1 to 20 decimal digits, or `0x` and 1 to 16 hexadecimal digits of either case
+abbrev pub number : List ℕ → Option ℕ
+number text =
+    if starts_with nat_eq text (codes "0x") then numeral 16 16 (drop 2 text) else numeral 10 20 text
+
+-- a device handle: a number below 2^32
+abbrev pub handle : List ℕ → Option ℕ
+handle text = below (2 ^ 32) (number text)
+
+-- `labels DIR HANDLE`: exactly three words
+abbrev pub labels_form : List Word → Option Form
+labels_form (command ∷ dir ∷ module_handle ∷ []) =
+    if bytes_eq (string_bytes command) (codes "labels")
+    then option_map Labels (handle (string_bytes module_handle))
+    else None
+labels_form _ = None
+
+-- Before a first `--` no word may be an option. All words behind it are taken as they are.
+abbrev pub form_of : List Word → Option Form
+form_of words =
+    if list_any is_option (before_first is_dashes words) then None else labels_form (operands words)
+
+-- the folder: the second word without a first `--`, or `.` where there are fewer than two
+abbrev pub dir_of : List Word → List ℕ
+dir_of words = unwrap_or (option_map string_bytes (slice_get (operands words) 1)) (codes ".")

@@ -1,0 +1,73 @@
+//! How a run ends, before it says so.
+
+ghost use Rattle.std.specs.Prelude.{◌≡◌, IsTrue};
+ghost use Rattle.nd_cli.specs.Answers.{is_status};
+ghost use Rattle.nd_cli.specs.Endings.{code_of, status_of, text_of};
+
+/// The status of a run.
+#[derive(Clone, Copy, Debug, PartialEq, Eq)]
+pub enum Status {
+    Ok = 0,
+    Refused = 1,
+    Words = 2,
+    Area = 4,
+    Memory = 6,
+    Say = 7,
+}
+
+impl Status {
+    /// The number that a process ends with.
+    pub fn code(self) -> u8
+        ensures code { result ≡ code_of self }
+        ensures known { IsTrue (is_status result) }
+    {
+        self as u8
+    }
+}
+
+/// The reply to `labels`.
+#[derive(Drop)]
+pub enum Reply {
+    /// The labels are listed.
+    Listed(String),
+    /// The area is not Ready.
+    Refused(String),
+}
+
+/// How a run ends, with what it says then.
+#[derive(Drop)]
+pub enum Ending {
+    Replied(Reply),
+    /// The words are no form.
+    NoForm,
+    /// The rig failed at an area.
+    AreaFailed(String),
+    /// Memory was refused.
+    NoMemory,
+}
+
+impl Ending {
+    /// The status of a run that ends so, and can say it.
+    pub fn status(&self) -> Status
+        ensures { code_of result ≡ status_of self.now }
+    {
+        match self {
+            Ending::Replied(Reply::Listed(_)) => Status::Ok,
+            Ending::Replied(Reply::Refused(_)) => Status::Refused,
+            Ending::NoForm => Status::Words,
+            Ending::AreaFailed(_) => Status::Area,
+            Ending::NoMemory => Status::Memory,
+        }
+    }
+
+    pub fn text(&self) -> &str
+        ensures { result.now ≡ text_of self.now }
+    {
+        match self {
+            Ending::Replied(Reply::Listed(text) | Reply::Refused(text)) => text,
+            Ending::NoForm => "error words\n",
+            Ending::AreaFailed(line) => line,
+            Ending::NoMemory => "error memory\n",
+        }
+    }
+}

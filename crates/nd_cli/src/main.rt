@@ -1,0 +1,60 @@
+//! The program `nd`: one command line over the files of a folder.
+#![tactic(auto)]
+
+mod area;
+mod endings;
+mod faults;
+mod listing;
+mod refusals;
+mod top;
+mod words;
+
+use endings::Status;
+use rig_trait::FileRig;
+use std::alloc::{AllocError, Global};
+use std::env;
+use std::io::ErrorKind;
+use std::process::ExitCode;
+use top::nd_top;
+
+/// Why nothing was run, and nothing said.
+enum StartFault {
+    /// The words cannot be had.
+    Words,
+    Memory,
+}
+
+impl From<AllocError> for StartFault {
+    fn from(_: AllocError) -> StartFault {
+        StartFault::Memory
+    }
+}
+
+fn main(rt: HostRuntime) -> ExitCode {
+    let status = match run(rt) {
+        Ok(status) => status,
+        Err(StartFault::Words) => 10,
+        Err(StartFault::Memory) => Status::Memory.code(),
+    };
+    ExitCode::from(status)
+}
+
+fn run(rt: HostRuntime) -> Result<u8, StartFault> {
+    let alloc = rt.alloc();
+    let words = words_of(&rt, alloc)?;
+    let mut rig = FileRig::new(rt, alloc, words::dir(&words))?;
+    Ok(nd_top(alloc, &words, &mut rig))
+}
+
+/// The arguments behind the program's name.
+fn words_of(rt: &HostRuntime, alloc: Global) -> Result<Vec<String>, StartFault> {
+    let arguments = match env::args(rt) {
+        Ok(arguments) => arguments,
+        Err(error) if error.kind() == ErrorKind::OutOfMemory => return Err(StartFault::Memory),
+        Err(_) => return Err(StartFault::Words),
+    };
+    Ok(arguments.skip(1).collect(alloc)?)
+}
+
+#[cfg(test)]
+mod tests;

@@ -1,0 +1,374 @@
+//! Runs over areas that are built by hand, from the offsets of their fields.
+
+use crate::top::nd_top;
+use byteorder::{ByteOrder, LittleEndian};
+use fletcher64::fletcher64_but;
+use rig_trait::{MemoryRig, Rig};
+use std::alloc::{AllocError, Global};
+use std::test::Fail;
+
+/// The uuid 0f6b1a52-7c3e-4d28-9a41-5be0c7d2e813.
+const UUID: [u8; 16] = [
+    0x0f, 0x6b, 0x1a, 0x52, 0x7c, 0x3e, 0x4d, 0x28, 0x9a, 0x41, 0x5b, 0xe0, 0xc7, 0xd2, 0xe8, 0x13,
+];
+
+/// An index block of an area of 1,024 bytes, which has two slots. A used slot is a bit of `used`.
+fn block(second: bool, seq: u32, used: u8) -> [u8; 256] {
+    let mut block = [0; 256];
+    block[..16].copy_from_slice(b"NAMESPACE_INDEX\0");
+    block[19] = 1;
+    LittleEndian::write_u32(&mut block[20..], seq);
+    LittleEndian::write_u64(&mut block[24..], if second { 256 } else { 0 });
+    LittleEndian::write_u64(&mut block[32..], 256);
+    LittleEndian::write_u64(&mut block[40..], if second { 0 } else { 256 });
+    LittleEndian::write_u64(&mut block[48..], 512);
+    LittleEndian::write_u32(&mut block[56..], 2);
+    LittleEndian::write_u16(&mut block[60..], 1);
+    LittleEndian::write_u16(&mut block[62..], 2);
+    block[72] = 3 ^ (used & 3);
+    let checksum = fletcher64_but(&block, 64);
+    LittleEndian::write_u64(&mut block[64..], checksum);
+    block
+}
+
+/// The same block with one byte of its padding turned.
+fn torn(mut block: [u8; 256]) -> [u8; 256] {
+    block[200] ^= 0x80;
+    block
+}
+
+/// A label of 4 MiB for a slot, in a set of one with the cookie 0x0000a3de00001235.
+fn label(slot: u8, name: &[u8; 64]) -> [u8; 256] {
+    let mut label = [0; 256];
+    label[..16].copy_from_slice(&UUID);
+    label[16..80].copy_from_slice(name);
+    label[84] = 1;
+    label[88] = 0x35;
+    label[89] = 0x12;
+    label[92] = 0xde;
+    label[93] = 0xa3;
+    label[97] = 0x02;
+    label[114] = 0x40;
+    label[120] = slot;
+    with_checksum(label)
+}
+
+fn with_checksum(mut label: [u8; 256]) -> [u8; 256] {
+    let checksum = fletcher64_but(&label, 248);
+    LittleEndian::write_u64(&mut label[248..], checksum);
+    label
+}
+
+/// 64 bytes that begin with these.
+fn name(text: &[u8]) -> [u8; 64] {
+    let mut name = [0; 64];
+    for (byte, place) in text.iter().zip(name.iter_mut()) {
+        *place = *byte;
+    }
+    name
+}
+
+/// An area of its four parts.
+fn area(alloc: Global, parts: [[u8; 256]; 4]) -> Result<Vec<u8>, AllocError> {
+    let mut area = Vec::with_capacity(alloc, 1024)?;
+    for part in &parts {
+        area.extend_from_slice(part)?;
+    }
+    Ok(area)
+}
+
+/// The words of a command line without quotes.
+fn words(alloc: Global, line: &str) -> Result<Vec<String>, AllocError> {
+    let mut words = Vec::new(alloc);
+    for word in line.split(' ') {
+        words.push(String::from_str(alloc, word)?)?;
+    }
+    Ok(words)
+}
+
+/// The status of a line over one area, and all that was said.
+fn run(alloc: Global, bytes: Vec<u8>, line: &str) -> Result<(u8, Vec<u8>), AllocError> {
+    let mut rig = MemoryRig::new(alloc, 4096)?;
+    rig.add(1, bytes)?;
+    let status = nd_top(alloc, &words(alloc, line)?, &mut rig);
+    Ok((status, rig.said().to_vec(alloc)?))
+}
+
+const FREE: [u8; 256] = [0xee; 256];
+
+/// Blocks and slots, and the status and the text of `labels . 1`.
+#[test]
+fn blocks(rt: HostRuntime) -> Result<(), Fail> {
+    let alloc = rt.alloc();
+    let rows = [
+        (
+            block(false, 3, 0),
+            block(true, 2, 0),
+            0,
+            "ok labels=0 slots=2 seq=3 place=0\n",
+        ),
+        (
+            block(false, 1, 0),
+            block(true, 2, 0),
+            0,
+            "ok labels=0 slots=2 seq=2 place=1\n",
+        ),
+        (
+            block(false, 2, 0),
+            block(true, 3, 0),
+            0,
+            "ok labels=0 slots=2 seq=3 place=1\n",
+        ),
+        (
+            block(false, 2, 0),
+            block(true, 1, 0),
+            0,
+            "ok labels=0 slots=2 seq=2 place=0\n",
+        ),
+        (
+            block(false, 1, 0),
+            block(true, 3, 0),
+            0,
+            "ok labels=0 slots=2 seq=1 place=0\n",
+        ),
+        (
+            block(false, 3, 0),
+            block(true, 1, 0),
+            0,
+            "ok labels=0 slots=2 seq=1 place=1\n",
+        ),
+        (
+            block(false, 2, 0),
+            block(true, 2, 0),
+            0,
+            "ok labels=0 slots=2 seq=2 place=1\n",
+        ),
+        (
+            torn(block(false, 3, 0)),
+            block(true, 2, 0),
+            0,
+            "ok labels=0 slots=2 seq=2 place=1\n",
+        ),
+        (
+            block(false, 3, 0),
+            torn(block(true, 1, 0)),
+            0,
+            "ok labels=0 slots=2 seq=3 place=0\n",
+        ),
+        (
+            torn(block(false, 3, 0)),
+            torn(block(true, 2, 0)),
+            1,
+            "refused not-ready uninit dimm=0x00000001\n",
+        ),
+        (
+            block(true, 3, 0),
+            block(false, 2, 0),
+            1,
+            "refused not-ready uninit dimm=0x00000001\n",
+        ),
+        (
+            [0; 256],
+            [0; 256],
+            1,
+            "refused not-ready uninit dimm=0x00000001\n",
+        ),
+    ];
+    for (first, second, status, text) in rows {
+        let answer = run(
+            alloc,
+            area(alloc, [first, second, FREE, FREE])?,
+            "labels . 1",
+        )?;
+        assert_eq!(rt; answer.0, status, "{text}");
+        assert_eq!(rt; answer.1.as_slice(), text.as_bytes(), "{text}");
+    }
+    Ok(())
+}
+
+/// The 64 bytes of a name, and how it is printed.
+#[test]
+fn names(rt: HostRuntime) -> Result<(), Fail> {
+    let alloc = rt.alloc();
+    let rows = [
+        (name(b"db0"), "db0"),
+        (name(b""), "-"),
+        (name(b"-"), "%2D"),
+        (name(b"--"), "--"),
+        (name(b"a b%\"\x7f\xff~!"), "a%20b%25%22%7F%FF~!"),
+        (name(b"line\nend"), "line%0Aend"),
+        (name(b"cut\0here"), "cut"),
+        (
+            [b'x'; 64],
+            "xxxxxxxxxxxxxxxxxxxxxxxxxxxxxxxxxxxxxxxxxxxxxxxxxxxxxxxxxxxxxxxx",
+        ),
+    ];
+    for (name, printed) in rows {
+        let text = format!(in alloc;
+            "  slot=1 uuid=0f6b1a52-7c3e-4d28-9a41-5be0c7d2e813 name={printed} flags=0x00000000 nlabel=1 position=0 cookie=0x0000a3de00001235 dpa=0x0000000000000000 size=4194304\nok labels=1 slots=2 seq=2 place=0\n"
+        )?;
+        let parts = [block(false, 2, 2), block(true, 1, 0), FREE, label(1, &name)];
+        let answer = run(alloc, area(alloc, parts)?, "labels . 1")?;
+        assert_eq!(rt; answer.0, 0, "{text}");
+        assert_eq!(rt; answer.1.as_slice(), text.as_bytes());
+    }
+    Ok(())
+}
+
+/// Slots that are in use and hold no label of theirs, and labels with fields of their greatest values.
+#[test]
+fn slots(rt: HostRuntime) -> Result<(), Fail> {
+    let alloc = rt.alloc();
+    let mut wrong_checksum = label(0, &name(b"x"));
+    wrong_checksum[255] ^= 1;
+    let other_slot = label(1, &name(b"x"));
+    let mut greatest = [0xff; 256];
+    LittleEndian::write_u32(&mut greatest[120..], 0);
+    let greatest = with_checksum(greatest);
+    let greatest_line =
+        "  slot=0 uuid=ffffffff-ffff-ffff-ffff-ffffffffffff name=%FF%FF%FF%FF%FF%FF%FF%FF%FF%FF%FF%FF%FF%FF%FF%FF%FF%FF%FF%FF%FF%FF%FF%FF%FF%FF%FF%FF%FF%FF%FF%FF%FF%FF%FF%FF%FF%FF%FF%FF%FF%FF%FF%FF%FF%FF%FF%FF%FF%FF%FF%FF%FF%FF%FF%FF%FF%FF%FF%FF%FF%FF%FF%FF flags=0xffffffff nlabel=65535 position=65535 cookie=0xffffffffffffffff dpa=0xffffffffffffffff size=18446744073709551615\nok labels=1 slots=2 seq=1 place=0\n";
+    let zero_line =
+        "  slot=0 uuid=00000000-0000-0000-0000-000000000000 name=- flags=0x00000000 nlabel=0 position=0 cookie=0x0000000000000000 dpa=0x0000000000000000 size=0\nok labels=1 slots=2 seq=1 place=0\n";
+    let none = "ok labels=0 slots=2 seq=1 place=0\n";
+    let rows = [
+        (wrong_checksum, none),
+        (other_slot, none),
+        (FREE, none),
+        ([0; 256], zero_line),
+        (greatest, greatest_line),
+    ];
+    for (slot, text) in rows {
+        let parts = [block(false, 1, 1), torn(block(true, 2, 0)), slot, FREE];
+        let answer = run(alloc, area(alloc, parts)?, "labels . 1")?;
+        assert_eq!(rt; answer.0, 0, "{text}");
+        assert_eq!(rt; answer.1.as_slice(), text.as_bytes());
+    }
+    Ok(())
+}
+
+/// Words, and sizes of areas, with the status and the text.
+#[test]
+fn words_and_sizes(rt: HostRuntime) -> Result<(), Fail> {
+    let alloc = rt.alloc();
+    let rows = [
+        (
+            "labels . 0x1",
+            1024,
+            1,
+            "refused not-ready uninit dimm=0x00000001\n",
+        ),
+        (
+            "-- labels . 1",
+            4096,
+            1,
+            "refused not-ready uninit dimm=0x00000001\n",
+        ),
+        (
+            "labels . 1",
+            0,
+            1,
+            "refused not-ready wrong-size dimm=0x00000001\n",
+        ),
+        (
+            "labels . 1",
+            1000,
+            1,
+            "refused not-ready wrong-size dimm=0x00000001\n",
+        ),
+        (
+            "labels . 1",
+            768,
+            1,
+            "refused not-ready wrong-size dimm=0x00000001\n",
+        ),
+        (
+            "labels . 1",
+            1_048_832,
+            1,
+            "refused not-ready wrong-size dimm=0x00000001\n",
+        ),
+        (
+            "labels . 4294967295",
+            1024,
+            1,
+            "refused not-ready missing dimm=0xffffffff\n",
+        ),
+        ("labels . 4294967296", 1024, 2, "error words\n"),
+        ("", 1024, 2, "error words\n"),
+        ("run", 1024, 2, "error words\n"),
+    ];
+    for (line, size, status, text) in rows {
+        let answer = run(alloc, vec![in alloc; 0; size]?, line)?;
+        assert_eq!(rt; answer.0, status, "{line}");
+        assert_eq!(rt; answer.1.as_slice(), text.as_bytes(), "{line}");
+    }
+    let mut rig = MemoryRig::new(alloc, 64)?;
+    assert_eq!(rt; nd_top(alloc, &[], &mut rig), 2);
+    assert_eq!(rt; rig.said(), b"error words\n".as_slice());
+    Ok(())
+}
+
+/// The calls that fail, the room and the line, with the status, the text, and how often the rig was read.
+#[test]
+fn faults(rt: HostRuntime) -> Result<(), Fail> {
+    let alloc = rt.alloc();
+    let listing = "ok labels=0 slots=2 seq=3 place=0\n";
+    let rows: [([u64; 2], u64, &str, u8, &str, u64); 12] = [
+        ([9, 9], 64, "labels . 1", 0, listing, 2),
+        (
+            [0, 9],
+            64,
+            "labels . 1",
+            4,
+            "error area dimm=0x00000001\n",
+            1,
+        ),
+        (
+            [1, 9],
+            64,
+            "labels . 1",
+            4,
+            "error area dimm=0x00000001\n",
+            2,
+        ),
+        ([2, 9], 64, "labels . 1", 7, "", 2),
+        ([0, 1], 64, "labels . 1", 7, "", 1),
+        ([1, 2], 64, "labels . 1", 7, "", 2),
+        ([9, 9], 33, "labels . 1", 7, "", 2),
+        ([9, 9], 34, "labels . 1", 0, listing, 2),
+        (
+            [9, 9],
+            64,
+            "labels . 2",
+            1,
+            "refused not-ready missing dimm=0x00000002\n",
+            1,
+        ),
+        (
+            [0, 9],
+            64,
+            "labels . 2",
+            4,
+            "error area dimm=0x00000002\n",
+            1,
+        ),
+        ([1, 9], 64, "labels . 2", 7, "", 1),
+        ([0, 9], 64, "labels", 7, "", 0),
+    ];
+    for (listed, room, line, status, text, reads) in rows {
+        let mut rig = MemoryRig::new(alloc, room)?;
+        let parts = [block(false, 3, 0), block(true, 2, 0), FREE, FREE];
+        rig.add(1, area(alloc, parts)?)?;
+        rig.fail_at(listed.to_vec(alloc)?);
+        assert_eq!(rt;
+            nd_top(alloc, &words(alloc, line)?, &mut rig),
+            status,
+            "{line}"
+        );
+        assert_eq!(rt; rig.said(), text.as_bytes(), "{line}");
+        assert_eq!(rt; rig.reads(), reads, "{line}");
+        let kept = rig.area(1).ok_or("no area")?;
+        assert_eq!(rt; kept, area(alloc, parts)?.as_slice());
+    }
+    Ok(())
+}

@@ -1,0 +1,164 @@
+//! The words of a command line.
+
+ghost use Rattle.std.specs.Prelude.{◌≡◌, ◌^◌, ◌++◌, ◌≤◌, slice_get};
+ghost use Rattle.std.specs.Option.{option_copied, option_map};
+ghost use Rattle.std.specs.List.{after_first, before_first};
+ghost use Rattle.std.specs.String.{string_bytes};
+ghost use Rattle.nd_cli.specs.Words.{is_dashes, is_option, below, numeral, handle, labels_form, form_of, dir_of};
+
+/// The forms of command lines.
+#[derive(Clone, Copy, Debug, PartialEq, Eq)]
+pub enum Form {
+    /// `labels DIR HANDLE`: the labels of the module with this device handle are listed.
+    Labels { dimm: u32 },
+}
+
+impl Form {
+    /// The form that the words are, and `None` exactly where they are none.
+    pub fn of(words: &[String]) -> Option<Form>
+        ensures { result ≡ form_of words.now }
+    {
+        let (front, back) = around_dashes(words);
+        if front.iter().any(is_option_word) {
+            return None;
+        }
+        labels(front, back)
+    }
+}
+
+/// The folder that the words name: the second of them without a first `--`, or `.` where there is none.
+pub fn dir(words: &[String]) -> &str
+    ensures { result.now ≡ dir_of words.now }
+{
+    let (front, back) = around_dashes(words);
+    operand(front, back, 1).unwrap_or(".")
+}
+
+/// The words before a first `--`, and those behind it: none where there is no `--`.
+fn around_dashes(words: &[String]) -> (&[String], &[String])
+    ensures front { result.0.now ≡ before_first is_dashes words.now }
+    ensures back { result.1.now ≡ after_first is_dashes words.now }
+{
+    match words.iter().position(|word| word.as_str() == "--") {
+        Some(dashes) => (&words[..dashes], &words[dashes + 1..]),
+        None => (words, &[]),
+    }
+}
+
+/// The word at a place, counted from 0 over both parts, and `None` past the end.
+fn operand<'a>(front: &'a [String], back: &'a [String], place: usize) -> Option<&'a str>
+    ensures { option_copied result ≡ option_map string_bytes (slice_get (front.now ++ back.now) place) }
+{
+    match front.get(place) {
+        Some(word) => Some(word),
+        None => back.get(place - front.len()).map(String::as_str),
+    }
+}
+
+/// Whether a word begins with `-`, and is not `-` alone.
+fn is_option_word(word: &String) -> bool
+    ensures { result ≡ is_option word.now }
+{
+    word.starts_with("-") && word.as_str() != "-"
+}
+
+/// The form `labels DIR HANDLE`, wherever a `--` parts its words.
+fn labels(front: &[String], back: &[String]) -> Option<Form>
+    ensures { result ≡ labels_form (front.now ++ back.now) }
+{
+    let command = operand(front, back, 0)?;
+    let handle = operand(front, back, 2)?;
+    if command != "labels" || operand(front, back, 3).is_some() {
+        return None;
+    }
+    let dimm = read_handle(handle)?;
+    Some(Form::Labels { dimm })
+}
+
+/// A device handle: a number below 2^32, as 1 to 20 decimal digits, or `0x` and 1 to 16 hexadecimal ones of either case.
+fn read_handle(text: &str) -> Option<u32>
+    ensures { result ≡ handle text.now }
+{
+    match text.strip_prefix("0x") {
+        Some(digits) => read_numeral(digits, 16, 16),
+        None => read_numeral(text, 10, 20),
+    }
+}
+
+/// The number below 2^32 that 1 to `most` digits of a base write.
+fn read_numeral(digits: &str, base: u32, most: usize) -> Option<u32>
+    requires low { 2 ≤ base }
+    requires high { base ≤ 16 }
+    ensures { result ≡ below (2 ^ 32) (numeral base most digits.now) }
+{
+    if digits.len() > most || !digits.bytes().all(|digit| char::from(digit).is_digit(base)) {
+        return None;
+    }
+    u32::from_str_radix(digits, base).ok()
+}
+
+#[cfg(test)]
+mod tests {
+    use super::*;
+    use std::alloc::{AllocError, Global};
+    use std::test::Fail;
+
+    fn split_at_spaces(alloc: Global, line: &str) -> Result<Vec<String>, AllocError> {
+        let mut words = Vec::new(alloc);
+        for word in line.split(' ') {
+            words.push(String::from_str(alloc, word)?)?;
+        }
+        Ok(words)
+    }
+
+    /// Words, the handle that they name in the form `labels`, and the folder.
+    #[test]
+    fn words_tests(rt: HostRuntime) -> Result<(), Fail> {
+        let lines = [
+            ("labels", None, "."),
+            ("labels pm", None, "pm"),
+            ("labels . 1", Some(1), "."),
+            ("labels pm 0x101", Some(257), "pm"),
+            ("labels pm 0xfF", Some(255), "pm"),
+            ("labels pm 0XFF", None, "pm"),
+            ("labels pm FF", None, "pm"),
+            ("labels pm 4294967295", Some(4_294_967_295), "pm"),
+            ("labels pm 4294967296", None, "pm"),
+            ("labels pm 0xffffffff", Some(4_294_967_295), "pm"),
+            ("labels pm 0x100000000", None, "pm"),
+            ("labels pm 00000000000000000001", Some(1), "pm"),
+            ("labels pm 000000000000000000001", None, "pm"),
+            ("labels pm 0x0000000000000010", Some(16), "pm"),
+            ("labels pm 0x00000000000000010", None, "pm"),
+            ("labels pm 0x", None, "pm"),
+            ("labels pm +1", None, "pm"),
+            ("labels pm -- +1", None, "pm"),
+            ("labels pm -1", None, "pm"),
+            ("labels pm -- -1", None, "pm"),
+            ("labels pm ", None, "pm"),
+            ("labels pm 1 2", None, "pm"),
+            ("Labels pm 1", None, "pm"),
+            ("-- labels pm 1", Some(1), "pm"),
+            ("labels -- pm 1", Some(1), "pm"),
+            ("labels pm -- 1", Some(1), "pm"),
+            ("labels pm 1 --", Some(1), "pm"),
+            ("labels pm 1 -- x", None, "pm"),
+            ("labels -x 1", None, "-x"),
+            ("labels -- -x 1", Some(1), "-x"),
+            ("labels - 1", Some(1), "-"),
+            ("-- labels -- 1", Some(1), "--"),
+            ("-- -- labels . 1", None, "labels"),
+            ("--help", None, "."),
+            ("-h", None, "."),
+        ];
+        for (line, handle, folder) in lines {
+            let words = split_at_spaces(rt.alloc(), line)?;
+            let form = handle.map(|dimm| Form::Labels { dimm });
+            assert_eq!(rt; Form::of(&words), form, "at {line}");
+            assert_eq!(rt; dir(&words), folder, "at {line}");
+        }
+        assert_eq!(rt; Form::of(&[]), None);
+        assert_eq!(rt; dir(&[]), ".");
+        Ok(())
+    }
+}
