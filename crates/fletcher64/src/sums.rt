@@ -10,6 +10,7 @@ pub struct Sums {
 }
 
 impl Sums {
+    /// The sums of no word.
     pub fn new() -> Sums
         ensures low { result.low ≡ 0 }
         ensures high { result.high ≡ 0 }
@@ -17,6 +18,7 @@ impl Sums {
         Sums { low: 0, high: 0 }
     }
 
+    /// Takes in the next word.
     pub fn add(&mut self, word: u32)
         ensures low { self.new.low ≡ (self.old.low + word) % 2 ^ 32 }
         ensures high { self.new.high ≡ (self.old.high + self.new.low) % 2 ^ 32 }
@@ -25,6 +27,7 @@ impl Sums {
         self.high = self.high.wrapping_add(self.low);
     }
 
+    /// The sum of sums in the high half, the sum in the low half.
     pub fn checksum(&self) -> u64
         ensures { result ≡ self.now.high * 2 ^ 32 + self.now.low }
     {

@@ -1,1 +1,3 @@
 pub mod StoredAreas
+pub mod WrittenAreas
+pub mod Moments

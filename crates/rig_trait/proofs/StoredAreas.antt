@@ -1,7 +1,8 @@
 -- The areas that a map of vectors holds, by their handles.
-use Rattle.std.proofs.Common.{◌≡◌, ℕ, Bool, true, false, cond, List, [], ◌∷◌, map, Option, Some, Vec, refl, ap, ◌∙◌}
+use Rattle.std.proofs.Common.{◌≡◌, ℕ, Bool, true, false, cond, List, [], ◌∷◌, map, Option, Some, None, Vec, refl, ap, ◌∙◌}
 use Rattle.std.proofs.lemmas.Cmp.{eq_by_cmp_equiv, nat_cmp_total}
 use Rattle.std.proofs.lemmas.Map.Made.{lookup-map_values}
+use Rattle.std.specs.Prelude.{IsSome}
 use Rattle.std.specs.Option.{option_map}
 use Rattle.std.specs.Ordering.{nat_cmp}
 use Rattle.std.specs.declared.alloc.Global.{Global}
@@ -10,6 +11,7 @@ use Rattle.std.specs.BTreeMap.{BTreeMap}
 use Rattle.std.specs.Map.{lookup}
 use Rattle.std.specs.FinMap.{get, insert, find, get-from_entries, get-insert, same_map, nat_cmp-IsAntisymmetric}
 use Rattle.rig_trait.specs.Memory.{bytes_of, areas_of}
+use Rattle.rig_trait.specs.Rig.{area}
 
 items_of : Vec ℕ Global → List ℕ
 items_of v = v.items
@@ -24,6 +26,13 @@ get-areas_of stored dimm =
     get-from_entries nat_cmp_total (map bytes_of stored.entries) dimm
     ∙ find_is_lookup dimm (map bytes_of stored.entries)
     ∙ lookup-map_values (λ v. v.items) (tree.is_at (nat_cmp dimm)) stored.entries
+
+-- the bytes of an area that is stored
+pub area-areas_of : (stored : BTreeMap ℕ (Vec ℕ Global)) (dimm : ℕ) (bytes : Vec ℕ Global) → Some bytes ≡ tree.get nat_cmp stored dimm → area (areas_of stored) dimm ≡ bytes.items
+area-areas_of stored dimm bytes found = rw (get-areas_of stored dimm, ← found)
+
+pub absent : (stored : BTreeMap ℕ (Vec ℕ Global)) (dimm : ℕ) → tree.get nat_cmp stored dimm ≡ None → IsSome (get (areas_of stored) dimm) → ⊥
+absent stored dimm none is_area = cc (rw (get-areas_of stored dimm, none) at is_area)
 
 option_map-cond : {X Y : Type 0} (f : X → Y) (b : Bool) (o p : Option X) → option_map f (cond b o p) ≡ cond b (option_map f o) (option_map f p)
 option_map-cond f true o p = refl

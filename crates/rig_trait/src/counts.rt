@@ -13,6 +13,7 @@ pub struct Counts {
 }
 
 impl Counts {
+    /// No call has failed, and no area was read.
     pub fn new() -> Counts
         ensures { result ≡ no_counts }
     {
@@ -24,12 +25,14 @@ impl Counts {
         }
     }
 
+    /// Counts a call of `size` or `read`.
     pub fn count_read(&mut self)
         ensures { self.new ≡ read_counted self.old }
     {
         self.reads = self.reads.saturating_add(1);
     }
 
+    /// Counts a call that failed at a module.
     pub fn count_fault(&mut self, dimm: u32)
         ensures { self.new ≡ fault_counted dimm self.old }
     {
@@ -37,6 +40,7 @@ impl Counts {
         self.failed_dimm = dimm;
     }
 
+    /// Counts a `say` that failed.
     pub fn count_say_fault(&mut self)
         ensures { self.new ≡ say_fault_counted self.old }
     {

@@ -8,7 +8,7 @@ ghost use Rattle.rig_trait.specs.Files.{area_file, handle_digits, HasRoom};
 use crate::counts::Counts;
 use crate::{Failed, Rig};
 use std::alloc::{AllocError, Global};
-use std::fs::File;
+use std::fs::{File, OpenOptions};
 use std::io::{ErrorKind, Write};
 use std::marker::Model;
 use std::os::unix::fs::FileExt;
@@ -16,7 +16,7 @@ use std::{fs, io};
 
 /// The areas as files of a folder, and the standard output: the area of the module with handle 0xHHHHHHHH is the
 /// file `dimm-HHHHHHHH.lsa`, with eight lower case digits. What files hold is outside of what is proved, so it
-/// tells no areas and nothing said.
+/// tells no areas, nothing said and no crash records.
 ///
 /// A missing file, or a missing folder, is no area. A path that is there and is no regular file fails, as does a
 /// range outside of the file. It takes memory when it is made, and never later.
@@ -82,15 +82,35 @@ impl FileRig {
         }
     }
 
-    fn try_read(&mut self, dimm: u32, at: u64, into: &mut [u8]) -> io::Result<()>
+    /// Fails where the file of an area, whose path it sets, doesn't have so many bytes from an offset on.
+    fn check_range(&mut self, dimm: u32, at: u64, len: usize) -> io::Result<()>
         ensures { self.new ≡ self.old }
     {
         let size = self.file_size(dimm)?;
-        if at > size || size - at < into.len() as u64 {
+        if at > size || size - at < len as u64 {
             return Err(ErrorKind::UnexpectedEof.into());
         }
+        Ok(())
+    }
+
+    fn try_read(&mut self, dimm: u32, at: u64, into: &mut [u8]) -> io::Result<()>
+        ensures { self.new ≡ self.old }
+    {
+        self.check_range(dimm, at, into.len())?;
         let file = File::open(&self.rt, self.path.as_str())?;
         file.read_exact_at(into, at)
+    }
+
+    /// Writes into a file that is there, which it never makes, cuts or lengthens.
+    fn try_write(&mut self, dimm: u32, at: u64, bytes: &[u8]) -> io::Result<()>
+        ensures { self.new ≡ self.old }
+    {
+        self.check_range(dimm, at, bytes.len())?;
+        let file = OpenOptions::new()
+            .write(true)
+            .open(&self.rt, self.path.as_str())?;
+        file.write_all_at(bytes, at)?;
+        file.sync_data()
     }
 
     fn try_say(&self, bytes: &[u8]) -> io::Result<()> {
@@ -153,9 +173,17 @@ fn push(path: &mut String, character: char)
 impl Rig for FileRig {
     ghost tells = { λ _. false };
 
+    ghost tells_records = { λ _. false };
+
     ghost areas = { λ _. empty };
 
     ghost said = { λ _. [] };
+
+    ghost may_leave = { λ _ _. ⊥ };
+
+    ghost moment = { λ _. 0 };
+
+    ghost left_since = { λ _ _ _. ⊥ };
 
     ghost faults = { λ rig. rig.faults };
 
@@ -164,6 +192,18 @@ impl Rig for FileRig {
     ghost failed_dimm = { λ rig. rig.failed_dimm };
 
     ghost reads = { λ rig. rig.reads };
+
+    ghost use Rattle.std.proofs.Common.{rules};
+
+    ghost counts_now = { λ _ _ _ _ left. left };
+
+    ghost earlier = { λ _ _ _ _ _ left. left };
+
+    ghost only_now = { λ _ _ left. left };
+
+    ghost now_is = { λ _ _ left. absurd left };
+
+    ghost has_record = { Prim.search rules };
 
     fn size(&mut self, dimm: u32) -> Result<Option<u64>, Failed> {
         self.counts.count_read();
@@ -179,6 +219,16 @@ impl Rig for FileRig {
     fn read(&mut self, dimm: u32, at: u64, into: &mut [u8]) -> Result<(), Failed> {
         self.counts.count_read();
         match self.try_read(dimm, at, into) {
+            Ok(()) => Ok(()),
+            Err(_) => {
+                self.counts.count_fault(dimm);
+                Err(Failed)
+            }
+        }
+    }
+
+    fn write(&mut self, dimm: u32, at: u64, bytes: &[u8]) -> Result<(), Failed> {
+        match self.try_write(dimm, at, bytes) {
             Ok(()) => Ok(()),
             Err(_) => {
                 self.counts.count_fault(dimm);

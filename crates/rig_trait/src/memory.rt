@@ -1,12 +1,12 @@
 //! A rig in memory.
 
-ghost use Rattle.std.specs.Prelude.{◌≡◌, ◌≤◌, ◌<◌, ◌+◌, ◌-◌, ◌^◌, ℕ, ◌++◌, ◌↔◌, ◌⊎◌, min, length, take, true, IsTrue, IsErr, IfOk, OnOk, OnErr, Contains};
+ghost use Rattle.std.specs.Prelude.{◌≡◌, ◌≤◌, ◌<◌, ◌+◌, ◌-◌, ◌^◌, ℕ, ◌++◌, ◌↔◌, ◌⊎◌, min, length, take, true, false, None, IsTrue, IsErr, IfOk, OnOk, OnErr, Contains};
 ghost use Rattle.std.specs.Option.{option_copied, option_map};
 ghost use Rattle.std.specs.FinMap.{get, insert};
-ghost use Rattle.byte_ranges.specs.Ranges.{range};
-ghost use Rattle.rig_trait.specs.Rig.{area, IsWithin, HasCause, HasRisen};
+ghost use Rattle.byte_ranges.specs.Ranges.{range, patched};
+ghost use Rattle.rig_trait.specs.Rig.{CrashRecord, area, written, IsWithin, Writes, LeftByWrite, IsSaying, Elapses, HasCause, HasRisen};
 ghost use Rattle.rig_trait.specs.Counts.{one_more, read_counted, fault_counted, say_fault_counted};
-ghost use Rattle.rig_trait.specs.Memory.{new_memory};
+ghost use Rattle.rig_trait.specs.Memory.{new_memory, areas_of};
 
 use crate::counts::Counts;
 use crate::{Failed, Rig};
@@ -14,8 +14,8 @@ use std::alloc::{AllocError, Global};
 use std::collections::BTreeMap;
 use std::marker::Model;
 
-/// A rig in memory, which always tells its areas and what was said. It fails at the calls that are listed, and at a
-/// `say` past its room, and nowhere else.
+/// A rig in memory, which always tells its areas and what was said, and no crash records. It fails at the calls that
+/// are listed, and at a `say` past its room, and nowhere else.
 #[derive(Drop)]
 pub struct MemoryRig {
     areas: BTreeMap<u32, Vec<u8>>,
@@ -63,8 +63,8 @@ impl MemoryRig {
         Ok(())
     }
 
-    /// Lists the calls of `size`, `read` and `say` that fail, by their numbers from 0 since the rig was made, in
-    /// place of those listed before.
+    /// Lists the calls of `size`, `read`, `write` and `say` that fail, by their numbers from 0 since the rig was made,
+    /// in place of those listed before. A listed write leaves its old bytes.
     pub fn fail_at(&mut self, calls: Vec<u64>)
         ensures { self.new ≡ record self.old { listed = calls.items } }
     {
@@ -101,12 +101,38 @@ impl MemoryRig {
     }
 }
 
+/// Puts bytes into one of the areas.
+fn put_into(areas: &mut BTreeMap<u32, Vec<u8>>, dimm: u32, at: usize, bytes: &[u8])
+    requires { IsWithin (areas_of areas.old) dimm at (length bytes.now) }
+    ensures { areas_of areas.new ≡ written (areas_of areas.old) dimm at bytes.now }
+{
+    if let Some(area) = areas.get_mut(&dimm) {
+        put(area, at, bytes);
+    }
+}
+
+/// Puts bytes from an offset on.
+fn put(area: &mut [u8], at: usize, bytes: &[u8])
+    requires { at + length bytes.now ≤ length area.old }
+    ensures { area.new ≡ patched area.old at bytes.now }
+{
+    area[at..at + bytes.len()].copy_from_slice(bytes);
+}
+
 impl Rig for MemoryRig {
     ghost tells = { λ _. true };
+
+    ghost tells_records = { λ _. false };
 
     ghost areas = { λ rig. rig.areas };
 
     ghost said = { λ rig. rig.said };
+
+    ghost may_leave = { λ _ _. ⊥ };
+
+    ghost moment = { λ _. 0 };
+
+    ghost left_since = { λ _ _ _. ⊥ };
 
     ghost faults = { λ rig. rig.counts.faults };
 
@@ -115,6 +141,18 @@ impl Rig for MemoryRig {
     ghost failed_dimm = { λ rig. rig.counts.failed_dimm };
 
     ghost reads = { λ rig. rig.counts.reads };
+
+    ghost use Rattle.std.proofs.Common.{rules};
+
+    ghost counts_now = { λ _ _ _ _ left. left };
+
+    ghost earlier = { λ _ _ _ _ _ left. left };
+
+    ghost only_now = { λ _ _ left. left };
+
+    ghost now_is = { λ _ _ left. absurd left };
+
+    ghost has_record = { Prim.search rules };
 
     fn size(&mut self, dimm: u32) -> Result<Option<u64>, Failed>
         // It fails at the listed calls alone, and changes its counts alone.
@@ -126,6 +164,8 @@ impl Rig for MemoryRig {
         ensures areas { self.new.areas ≡ self.old.areas }
         ensures said { self.new.said ≡ self.old.said }
         ensures tells { true ≡ true }
+        ensures tells_records { IsTrue false → IsTrue false }
+        ensures time { Elapses 0 0 (λ _ _. ⊥) (λ _ _. ⊥) (λ _. ⊥) (λ _. ⊥) }
         ensures cause { HasCause self.old.counts.faults self.new.counts.faults result }
         ensures say_faults { self.new.counts.say_faults ≡ self.old.counts.say_faults }
         ensures failed_dimm { OnErr result (self.new.counts.failed_dimm ≡ dimm) }
@@ -151,6 +191,8 @@ impl Rig for MemoryRig {
         ensures areas { self.new.areas ≡ self.old.areas }
         ensures said { self.new.said ≡ self.old.said }
         ensures tells { true ≡ true }
+        ensures tells_records { IsTrue false → IsTrue false }
+        ensures time { Elapses 0 0 (λ _ _. ⊥) (λ _ _. ⊥) (λ _. ⊥) (λ _. ⊥) }
         ensures cause { HasCause self.old.counts.faults self.new.counts.faults result }
         ensures say_faults { self.new.counts.say_faults ≡ self.old.counts.say_faults }
         ensures failed_dimm { OnErr result (self.new.counts.failed_dimm ≡ dimm) }
@@ -170,6 +212,33 @@ impl Rig for MemoryRig {
         Ok(())
     }
 
+    fn write(&mut self, dimm: u32, at: u64, bytes: &[u8]) -> Result<(), Failed>
+        requires { IsTrue true → IsWithin self.old.areas dimm at (length bytes.now) }
+        ensures listed { IsErr result ↔ Contains self.old.listed self.old.calls }
+        ensures ok { OnOk result (self.new ≡ record self.old { areas = written self.old.areas dimm at bytes.now; calls = one_more self.old.calls }) }
+        ensures err { OnErr result (self.new ≡ record self.old { calls = one_more self.old.calls; counts = fault_counted dimm self.old.counts }) }
+
+        ensures written { IsTrue true → Writes self.old.areas self.new.areas dimm at bytes.now result }
+        ensures said { self.new.said ≡ self.old.said }
+        ensures tells { true ≡ true }
+        ensures tells_records { IsTrue false → IsTrue false }
+        ensures time { Elapses 0 0 (λ _ _. ⊥) (λ _ _. ⊥) (λ _. ⊥) (LeftByWrite self.old.areas self.new.areas self.old.said dimm at bytes.now result) }
+        ensures whole { OnOk result ((c : CrashRecord) → ⊥ → c.torn ≡ None) }
+        ensures cause { HasCause self.old.counts.faults self.new.counts.faults result }
+        ensures say_faults { self.new.counts.say_faults ≡ self.old.counts.say_faults }
+        ensures failed_dimm { OnErr result (self.new.counts.failed_dimm ≡ dimm) }
+        ensures failed_dimm_kept { OnOk result (self.new.counts.failed_dimm ≡ self.old.counts.failed_dimm) }
+        ensures reads { self.new.counts.reads ≡ self.old.counts.reads }
+    {
+        if self.is_listed() {
+            // The old bytes stay.
+            self.counts.count_fault(dimm);
+            return Err(Failed);
+        }
+        put_into(&mut self.areas, dimm, at as usize, bytes);
+        Ok(())
+    }
+
     fn say(&mut self, bytes: &[u8]) -> Result<(), Failed>
         // It fails at the listed calls and past the room alone, and says nothing then.
         ensures listed_or_full { IsErr result ↔ (Contains self.old.listed self.old.calls ⊎ (self.old.room < length self.old.said + length bytes.now)) }
@@ -180,6 +249,8 @@ impl Rig for MemoryRig {
         ensures front { IsTrue true → (n : ℕ) × (self.new.said ≡ self.old.said ++ take n bytes.now) }
         ensures areas { self.new.areas ≡ self.old.areas }
         ensures tells { true ≡ true }
+        ensures tells_records { IsTrue false → IsTrue false }
+        ensures time { Elapses 0 0 (λ _ _. ⊥) (λ _ _. ⊥) (λ _. ⊥) (IsSaying (λ _. ⊥) self.old.said bytes.now) }
         ensures cause { HasCause self.old.counts.say_faults self.new.counts.say_faults result }
         ensures faults { self.new.counts.faults ≡ self.old.counts.faults }
         ensures failed_dimm { self.new.counts.failed_dimm ≡ self.old.counts.failed_dimm }

@@ -1,9 +1,20 @@
-ghost use Rattle.std.specs.Prelude.{◌+◌, ◌≤◌, length, vec_len};
+ghost use Rattle.std.specs.Prelude.{◌≡◌, ◌+◌, ◌≤◌, length, vec_len, false, IsTrue, IfOk, OnOk};
+ghost use Rattle.rig_trait.specs.Rig.{IsWithin, LeavesOnly};
+ghost use Rattle.rig_trait.specs.TwoWrites.{LeftByTwo, with_both};
 
 use super::*;
-use std::alloc::AllocError;
+use std::alloc::{AllocError, Global};
 use std::fs;
 use std::test::Fail;
+
+/// A rig with one area, of which no crash records are told.
+fn new_with(alloc: Global, dimm: u32, bytes: Vec<u8>) -> Result<MemoryRig, AllocError>
+    ensures { IfOk result (λ rig. ⟦<MemoryRig as Rig>⟧.tells_records rig ≡ false) }
+{
+    let mut rig = MemoryRig::new(alloc, 5)?;
+    rig.add(dimm, bytes)?;
+    Ok(rig)
+}
 
 /// Places an area, and reads from it.
 fn read_added(
@@ -30,19 +41,41 @@ fn read_whole<R: Rig>(rig: &mut R, dimm: u32, into: &mut [u8]) -> Result<bool, F
     }
 }
 
+/// Writes into an area, and says whether it has the range.
+fn write_inside<R: Rig>(rig: &mut R, dimm: u32, at: u64, bytes: &[u8]) -> Result<bool, Failed> {
+    match rig.size(dimm)? {
+        Some(size) if at <= size && bytes.len() as u64 <= size - at => {
+            rig.write(dimm, at, bytes)?;
+            Ok(true)
+        }
+        _ => Ok(false),
+    }
+}
+
+/// Writes to the start of an area, and then right behind. A stop at any moment leaves a front of this, or any bytes
+/// where the write goes that was stopped or failed.
+fn write_two<R: Rig>(rig: &mut R, dimm: u32, first: &[u8], second: &[u8]) -> Result<(), Failed>
+    requires { IsTrue (R.tells rig.old) → IsWithin (R.areas rig.old) dimm 0 (length first.now + length second.now) }
+    ensures any_moment { IsTrue (R.tells rig.old) → LeavesOnly R.moment R.left_since rig.old rig.new (LeftByTwo (R.areas rig.old) (R.said rig.old) dimm first.now second.now) }
+    ensures both { IsTrue (R.tells rig.old) → OnOk result (R.areas rig.new ≡ with_both (R.areas rig.old) dimm first.now second.now) }
+{
+    rig.write(dimm, 0, first)?;
+    rig.write(dimm, first.len() as u64, second)
+}
+
 fn answer<T: Drop>(is_ok: bool, value: T) -> Result<T, Failed> {
     if is_ok { Ok(value) } else { Err(Failed) }
 }
 
-/// The calls are the size of an area, the size of none, a read, texts of 3, 3 and 2 bytes in a room of 5, and the
-/// two calls that read the whole of an area.
+/// The calls are the size of an area, the size of none, a read, texts of 3, 3 and 2 bytes in a room of 5, the two calls
+/// that write inside of an area, and the two that read the whole of it.
 #[test]
 fn memory_calls(rt: HostRuntime) -> Result<(), Fail> {
     let alloc = rt.alloc();
     for (listed, is_ok, said, faults, say_faults, failed_dimm) in [
         (
             0,
-            [false, true, true, true, false, true, true],
+            [false, true, true, true, false, true, true, true],
             "abcde",
             1,
             1,
@@ -50,7 +83,7 @@ fn memory_calls(rt: HostRuntime) -> Result<(), Fail> {
         ),
         (
             1,
-            [true, false, true, true, false, true, true],
+            [true, false, true, true, false, true, true, true],
             "abcde",
             1,
             1,
@@ -58,7 +91,7 @@ fn memory_calls(rt: HostRuntime) -> Result<(), Fail> {
         ),
         (
             2,
-            [true, true, false, true, false, true, true],
+            [true, true, false, true, false, true, true, true],
             "abcde",
             1,
             1,
@@ -66,7 +99,7 @@ fn memory_calls(rt: HostRuntime) -> Result<(), Fail> {
         ),
         (
             3,
-            [true, true, true, false, true, true, true],
+            [true, true, true, false, true, true, true, true],
             "defde",
             0,
             1,
@@ -74,7 +107,7 @@ fn memory_calls(rt: HostRuntime) -> Result<(), Fail> {
         ),
         (
             4,
-            [true, true, true, true, false, true, true],
+            [true, true, true, true, false, true, true, true],
             "abcde",
             0,
             1,
@@ -82,7 +115,7 @@ fn memory_calls(rt: HostRuntime) -> Result<(), Fail> {
         ),
         (
             5,
-            [true, true, true, true, false, false, true],
+            [true, true, true, true, false, false, true, true],
             "abc",
             0,
             2,
@@ -90,31 +123,46 @@ fn memory_calls(rt: HostRuntime) -> Result<(), Fail> {
         ),
         (
             6,
-            [true, true, true, true, false, true, false],
+            [true, true, true, true, false, true, false, true],
             "abcde",
-            0,
             1,
-            0,
+            1,
+            0x101,
         ),
         (
             7,
-            [true, true, true, true, false, true, false],
+            [true, true, true, true, false, true, false, true],
+            "abcde",
+            1,
+            1,
+            0x101,
+        ),
+        (
+            8,
+            [true, true, true, true, false, true, true, false],
             "abcde",
             0,
             1,
             0,
         ),
         (
-            8,
-            [true, true, true, true, false, true, true],
+            9,
+            [true, true, true, true, false, true, true, false],
+            "abcde",
+            0,
+            1,
+            0,
+        ),
+        (
+            10,
+            [true, true, true, true, false, true, true, true],
             "abcde",
             0,
             1,
             0,
         ),
     ] {
-        let mut rig = MemoryRig::new(alloc, 5)?;
-        rig.add(0x1, Vec::from_array(alloc, [7, 8])?)?;
+        let mut rig = new_with(alloc, 0x1, Vec::from_array(alloc, [7, 8])?)?;
         rig.add(0x1, Vec::from_array(alloc, [9])?)?;
         rig.fail_at(Vec::from_array(alloc, [listed])?);
         assert_eq!(rt; rig.size(0x1), answer(is_ok[0], Some(1)), "at {listed}");
@@ -130,21 +178,27 @@ fn memory_calls(rt: HostRuntime) -> Result<(), Fail> {
         assert_eq!(rt; rig.say(b"def"), answer(is_ok[4], ()), "at {listed}");
         assert_eq!(rt; rig.say(b"de"), answer(is_ok[5], ()), "at {listed}");
         assert_eq!(rt; rig.said(), said.as_bytes(), "at {listed}");
+
+        let write = write_inside(&mut rig, 0x101, 2, &[22, 23]);
+        assert_eq!(rt; write, answer(is_ok[6], true), "at {listed}");
+        let after = if is_ok[6] {
+            [10, 11, 22, 23, 14, 15]
+        } else {
+            [10, 11, 12, 13, 14, 15]
+        };
+        assert_eq!(rt; rig.area(0x101), Some(after.as_slice()), "at {listed}");
+        assert_eq!(rt; rig.area(0x1), Some([9].as_slice()));
+        assert_eq!(rt; rig.area(0x2), None);
         assert_eq!(rt; rig.faults(), faults, "at {listed}");
         assert_eq!(rt; rig.say_faults(), say_faults, "at {listed}");
         assert_eq!(rt; rig.failed_dimm(), failed_dimm, "at {listed}");
-        assert_eq!(rt; rig.reads(), 3, "at {listed}");
-        assert_eq!(rt; rig.area(0x1), Some([9].as_slice()));
-        assert_eq!(rt; rig.area(0x2), None);
+        assert_eq!(rt; rig.reads(), 4, "at {listed}");
 
-        let mut whole = [0];
-        assert_eq!(rt;
-            read_whole(&mut rig, 0x1, &mut whole),
-            answer(is_ok[6], true),
-            "at {listed}"
-        );
-        if is_ok[6] {
-            assert_eq!(rt; whole, [9]);
+        let mut whole = [0; 6];
+        let read = read_whole(&mut rig, 0x101, &mut whole);
+        assert_eq!(rt; read, answer(is_ok[7], true), "at {listed}");
+        if is_ok[7] {
+            assert_eq!(rt; whole, after);
         }
     }
     Ok(())
@@ -196,5 +250,44 @@ fn file_calls(rt: HostRuntime) -> Result<(), Fail> {
 
     fs::remove_file(&rt, "dimm-00000101.lsa")?;
     fs::remove_dir(&rt, "dimm-0000abcd.lsa")?;
+    Ok(())
+}
+
+/// The writes of a rig over files, and what another rig reads afterwards.
+#[test]
+fn file_writes(rt: HostRuntime) -> Result<(), Fail> {
+    let alloc = rt.alloc();
+    fs::write(
+        &rt,
+        "dimm-00000102.lsa",
+        [1, 2, 3, 4, 5, 6, 7, 8].as_slice(),
+    )?;
+    fs::create_dir(&rt, "dimm-0000abce.lsa")?;
+
+    let mut rig = FileRig::new(rt, alloc, ".")?;
+    assert_eq!(rt; write_two(&mut rig, 0x102, &[11, 12], &[13]), Ok(()));
+    assert_eq!(rt; rig.write(0x102, 7, &[18]), Ok(()));
+    assert_eq!(rt; rig.write(0x102, 8, &[]), Ok(()));
+    assert_eq!(rt; (rig.faults(), rig.failed_dimm()), (0, 0));
+
+    assert_eq!(rt; rig.write(0x102, 7, &[19, 20]), Err(Failed));
+    assert_eq!(rt; rig.write(0x102, 9, &[]), Err(Failed));
+    assert_eq!(rt; rig.write(0x102, u64::MAX, &[21, 22]), Err(Failed));
+    assert_eq!(rt; (rig.faults(), rig.failed_dimm()), (3, 0x102));
+    assert_eq!(rt; rig.write(0xabce, 0, &[]), Err(Failed));
+    assert_eq!(rt; (rig.faults(), rig.failed_dimm()), (4, 0xabce));
+    assert_eq!(rt; rig.write(0x3, 0, &[]), Err(Failed));
+    assert_eq!(rt; (rig.faults(), rig.failed_dimm()), (5, 0x3));
+    assert_eq!(rt; (rig.reads(), rig.say_faults()), (0, 0));
+    assert_eq!(rt; fs::exists(&rt, "dimm-00000003.lsa")?, false);
+    drop(rig);
+
+    let mut rig = FileRig::new(rt, alloc, ".")?;
+    let mut whole = [0; 8];
+    assert_eq!(rt; read_whole(&mut rig, 0x102, &mut whole), Ok(true));
+    assert_eq!(rt; whole, [11, 12, 13, 4, 5, 6, 7, 18]);
+
+    fs::remove_file(&rt, "dimm-00000102.lsa")?;
+    fs::remove_dir(&rt, "dimm-0000abce.lsa")?;
     Ok(())
 }

@@ -1,0 +1,70 @@
+-- What the areas are after a write.
+use Rattle.std.proofs.Common.{◌≡◌, ◌≢◌, ℕ, ◌+◌, ◌≤◌, List, [], length, drop, Some, None, Ok, Err, refl, sym, ap, inl, inr, ◌∙◌, append_assoc, rules, arith}
+use Rattle.std.proofs.lemmas.Bool.{cases_eq}
+use Rattle.std.proofs.lemmas.Cmp.{nat_cmp_total}
+use Rattle.std.proofs.lemmas.List.{take-append-drop, drop-drop, length-take, length-drop}
+use Rattle.std.specs.Prelude.{IsSome, unwrap_or}
+use Rattle.std.specs.Option.{option_map}
+use Rattle.std.specs.FinMap.{get, gets, same_map, nat_cmp-IsAntisymmetric}
+use Rattle.byte_ranges.specs.Ranges.{range, patched}
+use Rattle.byte_ranges.proofs.Patched.{length-patched}
+use Rattle.rig_trait.specs.Rig.{Areas, area, written, IsWithin, Writes}
+
+get-area : (areas : Areas) (dimm : ℕ) → IsSome (get areas dimm) → get areas dimm ≡ Some (area areas dimm)
+get-area areas dimm is_area = elim (get areas dimm) as (λ o. IsSome o → o ≡ Some (unwrap_or o [])) [ None ↦ λ no. cc | Some bytes ↦ λ _. refl ] is_area
+
+length-range : (bytes : List ℕ) (at n : ℕ) → at + n ≤ length bytes → length (range bytes at n) ≡ n
+length-range bytes at n fits = omega (arith, fits, length-take n (drop at bytes), length-drop at bytes)
+
+patched_same : (bytes : List ℕ) (at n : ℕ) → at + n ≤ length bytes → patched bytes at (range bytes at n) ≡ bytes
+unfolding patched
+patched_same bytes at n fits =
+    rw (length-range bytes at n fits, append_assoc, ← drop-drop n at bytes, take-append-drop n (drop at bytes)) (take-append-drop at bytes)
+
+module _ (areas : Areas) (dimm at : ℕ) where
+  module _ (put : List ℕ) where
+    pub get-written : get (written areas dimm at put) dimm ≡ Some (patched (area areas dimm) at put)
+    get-written = grind (gets, rules)
+
+    pub get-written_other : (q : ℕ) → q ≢ dimm → get (written areas dimm at put) q ≡ get areas q
+    get-written_other q other = grind (gets, rules, arith)
+
+    -- no area is made or taken away, and no size changes
+    pub size-written : IsWithin areas dimm at (length put) → (q : ℕ) → option_map length (get (written areas dimm at put) q) ≡ option_map length (get areas q)
+    size-written within q = elim (cases_eq q dimm) [
+      | inl same ↦ rw (same, get-written, get-area areas dimm within.is_area, length-patched (area areas dimm) put at within.fits)
+      | inr other ↦ ap (option_map length) (get-written_other q other)
+    ]
+
+  -- bytes put where they stand already
+  pub written_same : (n : ℕ) → IsWithin areas dimm at n → written areas dimm at (range (area areas dimm) at n) ≡ areas
+  written_same n within = same_map nat_cmp_total nat_cmp-IsAntisymmetric _ _ (λ q. elim (cases_eq q dimm) [
+    | inl same ↦ rw (same, get-written (range (area areas dimm) at n), get-area areas dimm within.is_area, patched_same (area areas dimm) at n within.fits)
+    | inr other ↦ get-written_other (range (area areas dimm) at n) q other
+  ])
+
+  -- a write that left all bytes
+  pub writes_nothing : (put : List ℕ) → IsWithin areas dimm at (length put) → Writes {T = Unit {0}} areas areas dimm at put (Err (record {}))
+  writes_nothing put within = record {
+    garbage = range (area areas dimm) at (length put);
+    same_length = length-range (area areas dimm) at (length put) within.fits;
+    areas_are = sym (written_same (length put) within);
+    ok = inl refl;
+  }
+
+-- a write that answers Ok puts its bytes
+pub writes_all : {T : Type 0} → (old new : Areas) (dimm at : ℕ) (put : List ℕ) (value : T) → Writes old new dimm at put (Ok value) → new ≡ written old dimm at put
+writes_all old new dimm at put value writes = writes.areas_are ∙ ap (written old dimm at) (elim writes.ok [ inl err ↦ cc | inr same ↦ same ])
+
+-- what lay inside an area lies inside it after a write
+pub IsWithin-written : (areas : Areas) (dimm at : ℕ) (put : List ℕ) (q from n : ℕ) → IsWithin areas dimm at (length put) → IsWithin areas q from n → IsWithin (written areas dimm at put) q from n
+IsWithin-written areas dimm at put q from n within inside = elim (cases_eq q dimm) [
+  | inl same ↦ record {
+    is_area = rw (same, get-written areas dimm at put) refl;
+    fits = rw (same, get-written areas dimm at put, length-patched (area areas dimm) put at within.fits) (rw same at inside.fits);
+  }
+  | inr other ↦ record {
+    is_area = rw (get-written_other areas dimm at put q other) inside.is_area;
+    fits = rw (get-written_other areas dimm at put q other) inside.fits;
+  }
+]
