@@ -1,24 +1,17 @@
 -- A block is signed, and usable, by its own bytes alone: those behind them in the window don't matter.
-use Rattle.std.proofs.Common.{◌≡◌, ℕ, ◌+◌, ◌-◌, ◌%◌, ◌≤◌, min, Bool, true, false, ◌&&◌, nat_le, List, length, take, drop, refl, sym, ap, ◌∙◌, subst, arith}
+use Rattle.std.proofs.Common.{◌≡◌, ℕ, ◌+◌, ◌%◌, ◌≤◌, min, Bool, true, false, ◌&&◌, nat_le, List, length, take, refl, sym, ap, ◌∙◌, subst, arith}
 use Rattle.std.specs.Prelude.{not, ◌==◌, nat_eq}
 use Rattle.std.specs.List.{starts_with}
 use Rattle.std.proofs.lemmas.Bool.{and_right, and_parts, eqb-true}
 use Rattle.std.proofs.lemmas.Bool.Decides.{nat_tests}
-use Rattle.std.proofs.lemmas.List.{drop-take, take-take, length-take, get_or-take}
-use Rattle.byteorder.specs.Numbers.{little_from-take}
+use Rattle.std.proofs.lemmas.List.{take-take, length-take, get_or-take}
 use Rattle.byte_ranges.specs.Ranges.{number_at}
+use Rattle.byte_ranges.proofs.Numbers.{number_at-take}
 use Rattle.fletcher64.specs.Sums.{checksum_but}
 use Rattle.index_block.specs.declared.geometry.Geometry.{Geometry}
 use Rattle.index_block.specs.declared.geometry.Place.{Place}
 use Rattle.index_block.specs.Geometry.{place_offset, other_place, slot_offset}
 use Rattle.index_block.specs.Blocks.{signature, my_size, seq_of, has_size, has_checksum, is_signed, label_size_of, minor_of, has_offsets, has_labels, has_fields, is_usable}
-
--- a field within the front of some bytes
-pub number_at-take : (n at count : ℕ) (bytes : List ℕ) → at + n ≤ count → number_at n (take count bytes) at ≡ number_at n bytes at
-number_at-take n at count bytes within =
-    let e : at + (count - at) ≡ count = omega arith in
-    let cut = subst (λ (m : ℕ). drop at (take m bytes) ≡ take (count - at) (drop at bytes)) e (drop-take at (count - at) bytes) in
-    rw cut (little_from-take 0 n (count - at) (drop at bytes) (omega arith))
 
 -- the tests with other numbers that are equal
 nat_le-min : (size n whole : ℕ) → size ≤ n → nat_le size (min n whole) ≡ nat_le size whole

@@ -5,7 +5,7 @@
 --     +-----------+-----------+---------+-----------+---- .. ----+--------+
 --     | block 0   | block 1   | slot 0  | slot 1    |            | unused |
 --     +-----------+-----------+---------+-----------+---- .. ----+--------+
-use Rattle.std.specs.Prelude.{◌≡◌, ◌≤◌, ℕ, ◌+◌, ◌-◌, ◌*◌, ◌/◌, ◌%◌, ◌==◌, ◌&&◌, Bool, Option, Some, None, if◌then◌else◌, nat_le}
+use Rattle.std.specs.Prelude.{◌≡◌, ◌≤◌, ℕ, ◌+◌, ◌-◌, ◌*◌, ◌/◌, ◌%◌, ◌==◌, ◌&&◌, ◌||◌, Bool, Option, Some, None, if◌then◌else◌, nat_le}
 use Rattle.index_block.specs.declared.geometry.Geometry.{Geometry}
 use Rattle.index_block.specs.declared.geometry.Place.{Place}
 use Rattle.index_block.specs.declared.geometry.Place.TheVariants.{First, Second}
@@ -16,7 +16,7 @@ is_accepted size = nat_le 1024 size && nat_le size 1048576 && (size % 256 == 0)
 
 -- the sizes that its labels may have, in bytes
 abbrev pub is_label_size : ℕ → Bool
-is_label_size label = label == 256
+is_label_size label = (label == 128) || (label == 256)
 
 -- the least multiple of m that is at least n
 abbrev pub rounded_up : ℕ → ℕ → ℕ

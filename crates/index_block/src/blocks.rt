@@ -4,7 +4,7 @@ ghost use Rattle.std.specs.Prelude.{◌≡◌, ◌+◌, ◌≤◌, ◌<◌, leng
 ghost use Rattle.byte_ranges.specs.Ranges.{number_at};
 ghost use Rattle.index_block.specs.Geometry.{IsGeometry};
 ghost use Rattle.index_block.specs.Blocks.{kind_of, IsNumbered, is_signed, has_size, has_checksum, has_fields, has_offsets, has_labels, label_size_of, minor_of};
-ghost use Rattle.index_block.specs.Current.{current_of, IsSeq};
+ghost use Rattle.index_block.specs.Current.{current_of, is_followed_by, IsSeq};
 
 use crate::geometry::{ALIGNMENT, Geometry, Place};
 use byteorder::{ByteOrder, LittleEndian};
@@ -21,28 +21,30 @@ pub enum BlockKind {
 }
 
 /// The signature of an index block.
-const SIGNATURE: &[u8; 16] = b"NAMESPACE_INDEX\0";
+pub(crate) const SIGNATURE: &[u8; 16] = b"NAMESPACE_INDEX\0";
 
 // The offsets of the fields, in bytes.
-const LABEL_SIZE: usize = 19;
+pub(crate) const LABEL_SIZE: usize = 19;
 
-const SEQ: usize = 20;
+pub(crate) const SEQ: usize = 20;
 
-const MY_OFFSET: usize = 24;
+pub(crate) const MY_OFFSET: usize = 24;
 
-const MY_SIZE: usize = 32;
+pub(crate) const MY_SIZE: usize = 32;
 
-const OTHER_OFFSET: usize = 40;
+pub(crate) const OTHER_OFFSET: usize = 40;
 
-const LABEL_OFFSET: usize = 48;
+pub(crate) const LABEL_OFFSET: usize = 48;
 
-const SLOTS: usize = 56;
+pub(crate) const SLOTS: usize = 56;
 
-const MAJOR: usize = 60;
+pub(crate) const MAJOR: usize = 60;
 
-const MINOR: usize = 62;
+pub(crate) const MINOR: usize = 62;
 
-const CHECKSUM: usize = 64;
+pub(crate) const CHECKSUM: usize = 64;
+
+pub(crate) const FREE: usize = 72;
 
 /// What stands at a place. The window is the bytes from the place to the end of the area, at most 4,096 of them.
 #[tactic(auto, unfolding(crate::specs::Blocks::is_usable))]
@@ -125,14 +127,14 @@ fn has_labels(window: &[u8], g: &Geometry) -> bool
 }
 
 /// The field LabelSize for labels of `label` bytes.
-fn label_size(label: u32) -> u8
+pub(crate) fn label_size(label: u32) -> u8
     ensures { result ≡ label_size_of label }
 {
     if label == 128 { 0 } else { 1 }
 }
 
 /// The minor version for labels of `label` bytes.
-fn minor(label: u32) -> u16
+pub(crate) fn minor(label: u32) -> u16
     ensures { result ≡ minor_of label }
 {
     if label == 128 { 1 } else { 2 }
@@ -162,4 +164,13 @@ pub fn current(first: Option<u32>, second: Option<u32>) -> Option<Place>
             _ => Some(Place::Second),
         },
     }
+}
+
+/// The sequence number of the block that follows.
+pub fn next_seq(seq: u32) -> u32
+    requires { IsSeq seq }
+    ensures follows { IsTrue (is_followed_by seq result) }
+    ensures numbered { IsSeq result }
+{
+    if seq == 3 { 1 } else { seq + 1 }
 }

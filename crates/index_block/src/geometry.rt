@@ -47,13 +47,17 @@ impl Geometry {
     ghost use Rattle.index_block.specs.Geometry.{geometry_of, FitsIn, IsGeometry, place_offset};
 
     /// The geometry of an area of `size` bytes with labels of `label` bytes. Areas have 1,024 to 1,048,576 bytes, a
-    /// multiple of 256, and labels have 256. `None` exactly where one of the two sizes is another.
+    /// multiple of 256, and labels have 128 or 256. `None` exactly where one of the two sizes is another.
     pub fn of(size: u64, label: u32) -> Option<Geometry>
         ensures exact { result ≡ geometry_of size label }
+        ensures label { IfSome result (λ g. g.label ≡ label) }
         ensures geometry { IfSome result IsGeometry }
         ensures fits { IfSome result (FitsIn size) }
     {
-        if size < LEAST_SIZE || size > GREATEST_SIZE || size % ALIGNMENT != 0 || label != 256 {
+        if size < LEAST_SIZE || size > GREATEST_SIZE || size % ALIGNMENT != 0 {
+            return None;
+        }
+        if label != 128 && label != 256 {
             return None;
         }
         let bits = size / u64::from(label);

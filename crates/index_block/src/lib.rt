@@ -5,10 +5,12 @@
 mod bitmap;
 mod blocks;
 mod geometry;
+mod write;
 
-pub use bitmap::is_free;
-pub use blocks::{BlockKind, current, read_block};
+pub use bitmap::{count_free, first_free, is_free, set_free, set_used};
+pub use blocks::{BlockKind, current, next_seq, read_block};
 pub use geometry::{Geometry, Place};
+pub use write::write_block;
 
 #[cfg(test)]
 mod tests;

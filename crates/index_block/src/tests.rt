@@ -3,17 +3,19 @@ use byteorder::{ByteOrder, LittleEndian};
 use fletcher64::fletcher64_but;
 use std::test::Fail;
 
-/// The size of an area, the size of an index block there, and the number of slots.
+/// The sizes of an area and of its labels, the size of an index block there, and the number of slots.
 #[test]
 fn geometries(rt: HostRuntime) {
     let areas = [
-        (1024, 256, 2),
-        (4096, 256, 14),
-        (131_072, 256, 510),
-        (1_048_576, 768, 4090),
+        (1024, 256, 256, 2),
+        (4096, 256, 256, 14),
+        (131_072, 256, 256, 510),
+        (1_048_576, 256, 768, 4090),
+        (1024, 128, 256, 4),
+        (131_072, 128, 256, 1020),
+        (1_048_576, 128, 1280, 8172),
     ];
-    for (size, block, slots) in areas {
-        let label = 256;
+    for (size, label, block, slots) in areas {
         assert_eq!(rt;
             Geometry::of(size, label),
             Some(Geometry {
@@ -21,13 +23,15 @@ fn geometries(rt: HostRuntime) {
                 block,
                 slots
             }),
-            "at {size}"
+            "at {size} and {label}"
         );
     }
     for size in [0, 768, 1000, 1_048_832, u64::MAX] {
         assert_eq!(rt; Geometry::of(size, 256), None, "at {size}");
     }
-    assert_eq!(rt; Geometry::of(131_072, 128), None);
+    for label in [0, 64, 192, 512] {
+        assert_eq!(rt; Geometry::of(131_072, label), None, "at {label}");
+    }
 }
 
 #[test]
@@ -40,6 +44,11 @@ fn current_places(rt: HostRuntime) {
 }
 
 #[test]
+fn sequence(rt: HostRuntime) {
+    assert_eq!(rt; [next_seq(1), next_seq(2), next_seq(3)], [2, 3, 1]);
+}
+
+#[test]
 fn free_slots(rt: HostRuntime) {
     let map = [0x05, 0x80];
     for slot in 0..16 {
@@ -48,6 +57,35 @@ fn free_slots(rt: HostRuntime) {
             matches!(slot, 0 | 2 | 15),
             "at {slot}"
         );
+    }
+}
+
+/// The number of slots, and once the first, the last and one in the middle are used, the first free one and how many
+/// are free.
+#[test]
+fn bitmaps(rt: HostRuntime) {
+    let rows = [
+        (1, None, 0),
+        (7, Some(1), 4),
+        (8, Some(1), 5),
+        (9, Some(1), 6),
+        (510, Some(1), 507),
+        (1020, Some(1), 1017),
+        (4090, Some(1), 4087),
+    ];
+    for (slots, first, count) in rows {
+        assert!(rt; slots > 0 && slots <= 4096);
+        let mut map = [0xff; 512];
+        assert_eq!(rt; first_free(&map, slots), Some(0), "of {slots}");
+        assert_eq!(rt; count_free(&map, slots), slots);
+        set_used(&mut map, 0);
+        set_used(&mut map, slots - 1);
+        set_used(&mut map, slots / 2);
+        assert_eq!(rt; first_free(&map, slots), first, "of {slots}");
+        assert_eq!(rt; count_free(&map, slots), count, "of {slots}");
+        set_free(&mut map, slots - 1);
+        assert!(rt; is_free(&map, slots - 1), "of {slots}");
+        assert_eq!(rt; is_free(&map, 0), slots == 1, "of {slots}");
     }
 }
 
@@ -166,5 +204,31 @@ fn sizes(rt: HostRuntime) -> Result<(), Fail> {
     );
     let area = area_with(&with_checksum(with_size(empty_block(), 512), 0x3422_8047_d832_3af3));
     assert_eq!(rt; read_block(&area, Place::First, &g), BlockKind::Foreign);
+    Ok(())
+}
+
+#[test]
+fn written_blocks(rt: HostRuntime) -> Result<(), Fail> {
+    let g = Geometry::of(1024, 256).ok_or("no geometry")?;
+    assert_eq!(rt; g.block, 256);
+    assert_eq!(rt; g.slots, 2);
+    let mut block = [0xff; 256];
+    write_block(&mut block, Place::First, 3, &g, &[0xff]);
+    assert_eq!(rt; block.as_slice(), empty_block().as_slice());
+    assert_eq!(rt;
+        read_block(&block, Place::First, &g),
+        BlockKind::Usable { seq: 3 }
+    );
+    let g = Geometry::of(1024, 128).ok_or("no geometry")?;
+    assert_eq!(rt; g.block, 256);
+    assert_eq!(rt; g.slots, 4);
+    write_block(&mut block, Place::Second, 1, &g, &[0xfa]);
+    assert_eq!(rt; [block[19], block[62], block[72]], [0, 1, 0x0a]);
+    assert_eq!(rt; LittleEndian::read_u64(&block[64..]), 0xeb62_88d7_d731_3a3a);
+    assert_eq!(rt; read_block(&block, Place::First, &g), BlockKind::Foreign);
+    assert_eq!(rt;
+        read_block(&block, Place::Second, &g),
+        BlockKind::Usable { seq: 1 }
+    );
     Ok(())
 }
