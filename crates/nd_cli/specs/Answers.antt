@@ -1,13 +1,13 @@
 -- What a run answers where nothing fails: its status, and all that is said.
-use Rattle.std.specs.Prelude.{◌≡◌, ◌⊎◌, ◌==◌, ℕ, Bool, List, [], ◌∷◌, ◌++◌, Option, Some, None, Result, Ok, Err, take}
+use Rattle.std.specs.Prelude.{◌≡◌, ◌⊎◌, ◌==◌, ℕ, Bool, List, [], ◌∷◌, ◌++◌, Option, Some, None, take}
 use Rattle.std.specs.FinMap.{get}
 use Rattle.std.specs.List.{list_any}
-use Rattle.rig_trait.specs.Rig.{Areas, area}
-use Rattle.nd_cli.specs.declared.area.Current.{Current}
-use Rattle.nd_cli.specs.declared.area.NotReady.{NotReady}
+use Rattle.rig_trait.specs.Rig.{Areas}
+use Rattle.label_area.specs.declared.blocks.Current.{Current}
+use Rattle.label_area.specs.Blocks.{current_block}
+use Rattle.label_area.specs.Modules.{area_state, module_at}
 use Rattle.nd_cli.specs.declared.words.Form.{Form}
 use Rattle.nd_cli.specs.declared.words.Form.TheVariants.{Labels}
-use Rattle.nd_cli.specs.Areas.{state_of}
 use Rattle.nd_cli.specs.Texts.{area_error, listing, memory_error, refusal, words_error}
 use Rattle.nd_cli.specs.Words.{Word, form_of}
 
@@ -15,14 +15,17 @@ pub record Answer : Type 0 where
   pub status : ℕ
   pub text : List ℕ
 
--- the listing of an area that is Ready, and else the refusal
-abbrev pub answer_in_state : ℕ → List ℕ → Result Current NotReady → Answer
-answer_in_state dimm bytes (Ok current) = record { status = 0; text = listing current bytes }
-answer_in_state dimm bytes (Err state) = record { status = 1; text = refusal dimm state }
+-- the listing of an area that is Ready, by its current block, and else the refusal
+abbrev pub answer_by_block : ℕ → Areas → Option Current → Answer
+answer_by_block dimm areas (Some current) = record { status = 0; text = listing current (module_at areas dimm) }
+answer_by_block dimm areas None = record { status = 1; text = refusal dimm (area_state (get areas dimm)) }
+
+abbrev pub labels_answer : ℕ → Areas → Answer
+labels_answer dimm areas = answer_by_block dimm areas (current_block (get areas dimm))
 
 abbrev pub answer_to_form : Areas → Option Form → Answer
 answer_to_form areas None = record { status = 2; text = words_error }
-answer_to_form areas (Some (Labels dimm)) = answer_in_state dimm (area areas dimm) (state_of (get areas dimm))
+answer_to_form areas (Some (Labels dimm)) = labels_answer dimm areas
 
 -- the answer to some words, with these areas
 abbrev pub answer_of : List Word → Areas → Answer

@@ -1,16 +1,16 @@
 -- The texts that are said. Each line ends with the byte 0x0A.
-use Rattle.std.specs.Prelude.{ℕ, ◌-◌, ◌^◌, List, [], ◌++◌, codes, false, length}
+use Rattle.std.specs.Prelude.{ℕ, ◌-◌, ◌^◌, List, [], ◌++◌, Option, codes, false, length}
 use Rattle.std.specs.Fmt.{decimal, digits, format_spec, padded_integral}
-use Rattle.std.specs.List.{flat_map}
+use Rattle.std.specs.FinMap.{get}
+use Rattle.std.specs.List.{filter_map, flat_map, range_with_len}
 use Rattle.uuid.specs.Text.{hyphenated_text, lower}
 use Rattle.index_block.specs.declared.geometry.Place.{Place}
 use Rattle.index_block.specs.declared.geometry.Place.TheVariants.{First, Second}
 use Rattle.label_codec.specs.declared.label.Label.{Label}
 use Rattle.label_codec.specs.Names.{printed_name}
-use Rattle.nd_cli.specs.declared.area.Current.{Current}
-use Rattle.nd_cli.specs.declared.area.NotReady.{NotReady}
-use Rattle.nd_cli.specs.declared.area.NotReady.TheVariants.{Missing, WrongSize, Uninit}
-use Rattle.nd_cli.specs.Areas.{live_labels}
+use Rattle.label_area.specs.declared.blocks.Current.{Current}
+use Rattle.label_area.specs.Seen.{Seen}
+use Rattle.label_area.specs.Modules.{AreaState, Missing, WrongSize, Ready, Foreign, Uninit, Module}
 
 -- a number as `0x` and lower case hexadecimal digits, padded with zeros to a width: what `0x{:0width x}` prints
 abbrev pub hexadecimal : ℕ → ℕ → List ℕ
@@ -53,17 +53,39 @@ last_line count current = codes "ok labels=" ++ decimal count
     ++ codes " place=" ++ decimal (place_number current.place)
     ++ codes "\n"
 
--- a line for each live label, in the order of the slots, and a last line
-abbrev pub listing : Current → List ℕ → List ℕ
-listing current area = flat_map label_line (live_labels current area) ++ last_line (length (live_labels current area)) current
+-- the live labels of the first n slots, in the order of their slots
+abbrev pub live_below : (ℕ → Option Label) → ℕ → List Label
+live_below at n = filter_map at (range_with_len 0 n)
 
-abbrev pub cause : NotReady → List ℕ
+abbrev pub live_labels : Module → List Label
+live_labels area = live_below area.at area.slots
+
+-- a line for each live label, in the order of the slots, and a last line
+abbrev pub listing : Current → Module → List ℕ
+listing current area = flat_map label_line (live_labels area) ++ last_line (length (live_labels area)) current
+
+-- the listing of an area that was loaded
+abbrev pub current_of : Seen → Current
+current_of area = record { geometry = area.geometry; place = area.place; seq = area.seq }
+
+abbrev pub module_of : Seen → Module
+module_of area = record { state = Ready; slots = area.geometry.slots; at = get area.live }
+
+abbrev pub listing_of : Seen → List ℕ
+listing_of area = listing (current_of area) (module_of area)
+
+abbrev pub cause : AreaState → List ℕ
 cause Missing = codes "missing"
 cause WrongSize = codes "wrong-size"
+cause Ready = codes "ready"
+cause Foreign = codes "foreign"
 cause Uninit = codes "uninit"
 
-abbrev pub refusal : ℕ → NotReady → List ℕ
-refusal dimm state = codes "refused not-ready " ++ cause state ++ codes " dimm=" ++ handle_text dimm ++ codes "\n"
+abbrev pub refusal_for : List ℕ → ℕ → List ℕ
+refusal_for word dimm = codes "refused not-ready " ++ word ++ codes " dimm=" ++ handle_text dimm ++ codes "\n"
+
+abbrev pub refusal : ℕ → AreaState → List ℕ
+refusal dimm state = refusal_for (cause state) dimm
 
 -- the error lines
 abbrev pub words_error : List ℕ

@@ -60,6 +60,7 @@ impl Ending {
         }
     }
 
+    /// All that is said of it.
     pub fn text(&self) -> &str
         ensures { result.now ≡ text_of self.now }
     {

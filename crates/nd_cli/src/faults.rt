@@ -1,9 +1,8 @@
 //! Why a run ends without a reply.
 
 ghost use Rattle.std.specs.Prelude.{◌≡◌};
-ghost use Rattle.nd_cli.specs.declared.faults.RunFault.TheVariants.{Area, Memory};
+ghost use Rattle.nd_cli.specs.declared.faults.RunFault.TheVariants.{Memory};
 
-use rig_trait::Failed;
 use std::alloc::AllocError;
 
 /// The first fault of a run, which ends it.
@@ -13,14 +12,6 @@ pub enum RunFault {
     Area,
     /// Memory was refused.
     Memory,
-}
-
-impl From<Failed> for RunFault {
-    ghost from_gives = { λ _ fault. fault ≡ Area };
-
-    fn from(_: Failed) -> RunFault {
-        RunFault::Area
-    }
 }
 
 impl From<AllocError> for RunFault {

@@ -2,10 +2,10 @@
 
 ghost use Rattle.std.specs.Prelude.{◌≡◌, ◌++◌, ◌≤◌, IfOk, OnOk, string_bytes};
 ghost use Rattle.label_codec.specs.Names.{printed_name};
-ghost use Rattle.nd_cli.specs.Texts.{extent_part, identity_part, label_line, last_line, listing, place_number, set_part};
+ghost use Rattle.nd_cli.specs.Texts.{current_of, extent_part, identity_part, label_line, last_line, listing_of, place_number, set_part};
 
-use crate::area::{Area, Current};
 use index_block::Place;
+use label_area::Area;
 use label_codec::{Label, name_text};
 use std::alloc::{AllocError, Global};
 use std::fmt::Write;
@@ -13,17 +13,17 @@ use uuid::Uuid;
 
 /// A line for each live label, in the order of their slots, and a last line.
 pub fn listing(alloc: Global, area: &Area) -> Result<String, AllocError>
-    ensures { IfOk result (λ text. string_bytes text ≡ listing area.now.current area.now.bytes.items) }
+    ensures { IfOk result (λ text. string_bytes text ≡ listing_of area.now) }
 {
     let mut text = String::new(alloc);
     let mut count = 0;
-    for slot in 0..area.current.geometry.slots {
+    for slot in 0..area.slots() {
         if let Some(label) = area.label(slot) {
-            push_label(alloc, &mut text, &label)?;
+            push_label(alloc, &mut text, label)?;
             count += 1;
         }
     }
-    push_last(&mut text, count, &area.current)?;
+    push_last(&mut text, count, area)?;
     Ok(text)
 }
 
@@ -72,11 +72,11 @@ fn push_extent(text: &mut String, label: &Label) -> Result<(), AllocError>
     writeln!(text, " size={}", label.raw_size)
 }
 
-fn push_last(text: &mut String, count: u32, current: &Current) -> Result<(), AllocError>
-    ensures { OnOk result (string_bytes text.new ≡ string_bytes text.old ++ last_line count current.now) }
+fn push_last(text: &mut String, count: u32, area: &Area) -> Result<(), AllocError>
+    ensures { OnOk result (string_bytes text.new ≡ string_bytes text.old ++ last_line count (current_of area.now)) }
 {
-    write!(text, "ok labels={count} slots={}", current.geometry.slots)?;
-    writeln!(text, " seq={} place={}", current.seq, number(current.place))
+    write!(text, "ok labels={count} slots={}", area.slots())?;
+    writeln!(text, " seq={} place={}", area.seq(), number(area.place()))
 }
 
 /// How a place is shown.

@@ -1,7 +1,6 @@
 //! The program `nd`: one command line over the files of a folder.
 #![tactic(auto)]
 
-mod area;
 mod endings;
 mod faults;
 mod listing;

@@ -1,34 +1,22 @@
 //! The refusals, and the line of a fault at an area.
 
 ghost use Rattle.std.specs.Prelude.{◌≡◌, ◌++◌, IfOk, OnOk, string_bytes};
-ghost use Rattle.nd_cli.specs.Texts.{area_error, cause, refusal};
+ghost use Rattle.nd_cli.specs.Texts.{area_error, refusal_for};
 
-use crate::area::NotReady;
 use std::alloc::{AllocError, Global};
 use std::fmt::Write;
 
 /// The length of the line of a fault at an area, in bytes.
 pub const AREA_ERROR: usize = 27;
 
-/// The refusal of a module whose area is not Ready.
-pub fn refusal(alloc: Global, dimm: u32, state: NotReady) -> Result<String, AllocError>
-    ensures { IfOk result (λ text. string_bytes text ≡ refusal dimm state) }
+/// The refusal of a module whose area is in a state, by the word for it.
+pub fn refusal(alloc: Global, dimm: u32, cause: &str) -> Result<String, AllocError>
+    ensures { IfOk result (λ text. string_bytes text ≡ refusal_for cause.now dimm) }
 {
     let mut text = String::new(alloc);
-    write!(text, "refused not-ready {}", cause(state))?;
+    write!(text, "refused not-ready {cause}")?;
     writeln!(text, " dimm=0x{dimm:08x}")?;
     Ok(text)
-}
-
-/// The word for a state.
-fn cause(state: NotReady) -> &'static str
-    ensures { result.now ≡ cause state }
-{
-    match state {
-        NotReady::Missing => "missing",
-        NotReady::WrongSize => "wrong-size",
-        NotReady::Uninit => "uninit",
-    }
 }
 
 /// Appends the line of a fault at the area of a module.

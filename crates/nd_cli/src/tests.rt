@@ -1,5 +1,7 @@
 //! Runs over areas that are built by hand, from the offsets of their fields.
 
+ghost use Rattle.std.specs.Prelude.{◌≡◌, ◌+◌, ◌%◌, ◌≤◌};
+
 use crate::top::nd_top;
 use byteorder::{ByteOrder, LittleEndian};
 use fletcher64::fletcher64_but;
@@ -26,9 +28,16 @@ fn block(second: bool, seq: u32, used: u8) -> [u8; 256] {
     LittleEndian::write_u16(&mut block[60..], 1);
     LittleEndian::write_u16(&mut block[62..], 2);
     block[72] = 3 ^ (used & 3);
-    let checksum = fletcher64_but(&block, 64);
-    LittleEndian::write_u64(&mut block[64..], checksum);
-    block
+    with_checksum(block, 64)
+}
+
+/// The same block, of version 1.1: for the four labels of 128 bytes of the same area.
+fn of_version_1_1(mut block: [u8; 256]) -> [u8; 256] {
+    block[19] = 0;
+    block[56] = 4;
+    block[62] = 1;
+    block[72] = 0x0f;
+    with_checksum(block, 64)
 }
 
 /// The same block with one byte of its padding turned.
@@ -50,13 +59,17 @@ fn label(slot: u8, name: &[u8; 64]) -> [u8; 256] {
     label[97] = 0x02;
     label[114] = 0x40;
     label[120] = slot;
-    with_checksum(label)
+    with_checksum(label, 248)
 }
 
-fn with_checksum(mut label: [u8; 256]) -> [u8; 256] {
-    let checksum = fletcher64_but(&label, 248);
-    LittleEndian::write_u64(&mut label[248..], checksum);
-    label
+/// The same bytes with the checksum in this field.
+fn with_checksum(mut bytes: [u8; 256], at: usize) -> [u8; 256]
+    requires within { at + 8 ≤ 256 }
+    requires aligned { at % 4 ≡ 0 }
+{
+    let checksum = fletcher64_but(&bytes, at);
+    LittleEndian::write_u64(&mut bytes[at..], checksum);
+    bytes
 }
 
 /// 64 bytes that begin with these.
@@ -165,7 +178,25 @@ fn blocks(rt: HostRuntime) -> Result<(), Fail> {
             block(true, 3, 0),
             block(false, 2, 0),
             1,
+            "refused not-ready foreign dimm=0x00000001\n",
+        ),
+        (
+            of_version_1_1(block(false, 2, 0)),
+            [0; 256],
+            1,
+            "refused not-ready foreign dimm=0x00000001\n",
+        ),
+        (
+            torn(of_version_1_1(block(false, 2, 0))),
+            [0; 256],
+            1,
             "refused not-ready uninit dimm=0x00000001\n",
+        ),
+        (
+            of_version_1_1(block(false, 2, 0)),
+            block(true, 3, 0),
+            0,
+            "ok labels=0 slots=2 seq=3 place=1\n",
         ),
         (
             [0; 256],
@@ -224,7 +255,7 @@ fn slots(rt: HostRuntime) -> Result<(), Fail> {
     let other_slot = label(1, &name(b"x"));
     let mut greatest = [0xff; 256];
     LittleEndian::write_u32(&mut greatest[120..], 0);
-    let greatest = with_checksum(greatest);
+    let greatest = with_checksum(greatest, 248);
     let greatest_line =
         "  slot=0 uuid=ffffffff-ffff-ffff-ffff-ffffffffffff name=%FF%FF%FF%FF%FF%FF%FF%FF%FF%FF%FF%FF%FF%FF%FF%FF%FF%FF%FF%FF%FF%FF%FF%FF%FF%FF%FF%FF%FF%FF%FF%FF%FF%FF%FF%FF%FF%FF%FF%FF%FF%FF%FF%FF%FF%FF%FF%FF%FF%FF%FF%FF%FF%FF%FF%FF%FF%FF%FF%FF%FF%FF%FF%FF flags=0xffffffff nlabel=65535 position=65535 cookie=0xffffffffffffffff dpa=0xffffffffffffffff size=18446744073709551615\nok labels=1 slots=2 seq=1 place=0\n";
     let zero_line =

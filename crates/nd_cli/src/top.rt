@@ -1,21 +1,19 @@
 //! One run, from the words to what is said and the status.
 
 ghost use Rattle.std.specs.Prelude.{◌≡◌, ◌≤◌, ◌⊎◌, ◌++◌, None, IfErr, IfOk, IsSome, IsTrue};
-ghost use Rattle.std.specs.FinMap.{get};
-ghost use Rattle.rig_trait.specs.Rig.{HasRisen, area};
-ghost use Rattle.nd_cli.specs.Answers.{IsAnswered, SaysFront, answer_of, answer_in_state, answer_to_form, is_status};
-ghost use Rattle.nd_cli.specs.Areas.{state_of};
+ghost use Rattle.rig_trait.specs.Rig.{HasRisen};
+ghost use Rattle.nd_cli.specs.Answers.{IsAnswered, SaysFront, answer_of, answer_to_form, is_status, labels_answer};
 ghost use Rattle.nd_cli.specs.Endings.{HasEndingCause, Tells, answer_in};
 ghost use Rattle.nd_cli.specs.Faults.{HasCause};
 ghost use Rattle.nd_cli.specs.Texts.{area_error, memory_error};
 ghost use Rattle.nd_cli.specs.Words.{form_of};
 
-use crate::area::Area;
 use crate::endings::{Ending, Reply, Status};
 use crate::faults::RunFault;
 use crate::listing::listing;
 use crate::refusals::{AREA_ERROR, push_area_error, refusal};
 use crate::words::Form;
+use label_area::{Area, AreaFault};
 use rig_trait::{Failed, Rig};
 use std::alloc::Global;
 
@@ -76,15 +74,21 @@ fn run<R: Rig>(alloc: Global, words: &[String], rig: &mut R) -> Ending
 
 /// Lists the labels of a module, or refuses to where its area is not Ready.
 fn labels<R: Rig>(alloc: Global, rig: &mut R, dimm: u32) -> Result<Reply, RunFault>
-    ensures replied { IsTrue (R.tells rig.old) → IfOk result (λ reply. answer_in reply ≡ answer_in_state dimm (area (R.areas rig.old) dimm) (state_of (get (R.areas rig.old) dimm))) }
+    ensures replied { IsTrue (R.tells rig.old) → IfOk result (λ reply. answer_in reply ≡ labels_answer dimm (R.areas rig.old)) }
     ensures cause { IfErr result (HasCause (R.faults rig.old) (R.faults rig.new)) }
     ensures areas { R.areas rig.new ≡ R.areas rig.old }
     ensures said { R.said rig.new ≡ R.said rig.old }
     ensures tells { R.tells rig.new ≡ R.tells rig.old }
     ensures say_faults { R.say_faults rig.new ≡ R.say_faults rig.old }
 {
-    match Area::load(alloc, rig, dimm)? {
-        Ok(area) => Ok(Reply::Listed(listing(alloc, &area)?)),
-        Err(state) => Ok(Reply::Refused(refusal(alloc, dimm, state)?)),
-    }
+    let state = match Area::load(alloc, rig, dimm) {
+        Ok(area) => return Ok(Reply::Listed(listing(alloc, &area)?)),
+        Err(AreaFault::Failed) => return Err(RunFault::Area),
+        Err(AreaFault::Memory) => return Err(RunFault::Memory),
+        Err(AreaFault::Missing) => "missing",
+        Err(AreaFault::WrongSize) => "wrong-size",
+        Err(AreaFault::Foreign) => "foreign",
+        Err(AreaFault::Uninit) => "uninit",
+    };
+    Ok(Reply::Refused(refusal(alloc, dimm, state)?))
 }

@@ -1,0 +1,9 @@
+pub mod Blocks
+pub mod Slots
+pub mod Modules
+pub mod Seen
+pub mod Used
+pub mod Kept
+pub mod Loads
+pub mod Causes
+pub mod Fair

@@ -1,0 +1,13 @@
+//! Label storage areas: how one is loaded, and what it then shows (UEFI 2.7, section 13.19).
+#![tactic(auto)]
+
+mod area;
+mod blocks;
+mod load;
+
+pub use area::Area;
+pub use blocks::Current;
+pub use load::AreaFault;
+
+#[cfg(test)]
+mod tests;
