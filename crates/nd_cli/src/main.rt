@@ -1,6 +1,10 @@
 //! The program `nd`: one command line over the files of a folder.
 #![tactic(auto)]
 
+ghost use Rattle.std.specs.Prelude.{◌≡◌, IfOk, IsTrue};
+ghost use Rattle.nd_cli.specs.Answers.{is_status};
+ghost use Rattle.nd_cli.specs.declared.StartFault.TheVariants.{Memory};
+
 mod endings;
 mod faults;
 mod listing;
@@ -24,6 +28,8 @@ enum StartFault {
 }
 
 impl From<AllocError> for StartFault {
+    ghost from_gives = { λ _ fault. fault ≡ Memory };
+
     fn from(_: AllocError) -> StartFault {
         StartFault::Memory
     }
@@ -38,7 +44,10 @@ fn main(rt: HostRuntime) -> ExitCode {
     ExitCode::from(status)
 }
 
-fn run(rt: HostRuntime) -> Result<u8, StartFault> {
+/// Runs the arguments over the files, and gives the status.
+fn run(rt: HostRuntime) -> Result<u8, StartFault>
+    ensures { IfOk result (λ status. IsTrue (is_status status)) }
+{
     let alloc = rt.alloc();
     let words = words_of(&rt, alloc)?;
     let mut rig = FileRig::new(rt, alloc, words::dir(&words))?;
