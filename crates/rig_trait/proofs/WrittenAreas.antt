@@ -1,5 +1,5 @@
 -- What the areas are after a write.
-use Rattle.std.proofs.Common.{◌≡◌, ◌≢◌, ℕ, ◌+◌, ◌≤◌, List, [], length, drop, Some, None, Ok, Err, refl, sym, ap, inl, inr, ◌∙◌, append_assoc, rules, arith}
+use Rattle.std.proofs.Common.{◌≡◌, ◌≢◌, ℕ, ◌+◌, ◌≤◌, List, [], length, drop, Some, None, Result, Ok, Err, refl, sym, ap, inl, inr, ◌∙◌, append_assoc, rules, arith}
 use Rattle.std.proofs.lemmas.Bool.{cases_eq}
 use Rattle.std.proofs.lemmas.Cmp.{nat_cmp_total}
 use Rattle.std.proofs.lemmas.List.{take-append-drop, drop-drop, length-take, length-drop}
@@ -8,7 +8,8 @@ use Rattle.std.specs.Option.{option_map}
 use Rattle.std.specs.FinMap.{get, gets, same_map, nat_cmp-IsAntisymmetric}
 use Rattle.byte_ranges.specs.Ranges.{range, patched}
 use Rattle.byte_ranges.proofs.Patched.{length-patched}
-use Rattle.rig_trait.specs.Rig.{Areas, area, written, IsWithin, Writes}
+use Rattle.rig_trait.specs.declared.rig.Failed.{Failed}
+use Rattle.rig_trait.specs.Rig.{Areas, area, written, IsWithin, OthersKept, Writes}
 
 get-area : (areas : Areas) (dimm : ℕ) → IsSome (get areas dimm) → get areas dimm ≡ Some (area areas dimm)
 get-area areas dimm is_area = elim (get areas dimm) as (λ o. IsSome o → o ≡ Some (unwrap_or o [])) [ None ↦ λ no. cc | Some bytes ↦ λ _. refl ] is_area
@@ -16,7 +17,7 @@ get-area areas dimm is_area = elim (get areas dimm) as (λ o. IsSome o → o ≡
 length-range : (bytes : List ℕ) (at n : ℕ) → at + n ≤ length bytes → length (range bytes at n) ≡ n
 length-range bytes at n fits = omega (arith, fits, length-take n (drop at bytes), length-drop at bytes)
 
-patched_same : (bytes : List ℕ) (at n : ℕ) → at + n ≤ length bytes → patched bytes at (range bytes at n) ≡ bytes
+pub patched_same : (bytes : List ℕ) (at n : ℕ) → at + n ≤ length bytes → patched bytes at (range bytes at n) ≡ bytes
 unfolding patched
 patched_same bytes at n fits =
     rw (length-range bytes at n fits, append_assoc, ← drop-drop n at bytes, take-append-drop n (drop at bytes)) (take-append-drop at bytes)
@@ -68,3 +69,7 @@ IsWithin-written areas dimm at put q from n within inside = elim (cases_eq q dim
     fits = rw (get-written_other areas dimm at put q other) inside.fits;
   }
 ]
+
+-- a write leaves all other areas
+pub OthersKept-writes : {T : Type 0} → (old new : Areas) (dimm at : ℕ) (put : List ℕ) (result : Result T Failed) → Writes old new dimm at put result → OthersKept dimm old new
+OthersKept-writes old new dimm at put result writes q other = ap (λ areas. get areas q) writes.areas_are ∙ get-written_other old dimm at writes.garbage q other

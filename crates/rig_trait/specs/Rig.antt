@@ -1,5 +1,5 @@
 -- The label storage areas of all modules, what a stop leaves of them, and why a call of a rig fails.
-use Rattle.std.specs.Prelude.{◌≡◌, ◌⊎◌, ℕ, ◌+◌, ◌-◌, ◌^◌, ◌≤◌, min, List, [], ◌++◌, length, take, Option, Some, None, IsSome, unwrap_or, Result, IsErr, OnErr}
+use Rattle.std.specs.Prelude.{◌≡◌, ◌≢◌, ◌⊎◌, ℕ, ◌+◌, ◌-◌, ◌^◌, ◌≤◌, min, List, [], ◌++◌, length, take, Option, Some, None, IsSome, unwrap_or, Result, IsErr, OnErr}
 use Rattle.std.specs.Ordering.{nat_cmp}
 use Rattle.std.specs.FinMap.{FinMap, get, insert}
 use Rattle.byte_ranges.specs.Ranges.{range, patched}
@@ -21,6 +21,10 @@ pub record IsWithin (areas : Areas) (dimm at n : ℕ) : Type 0 where
 -- the areas with other bytes in one of them, from an offset on
 abbrev pub written : Areas → ℕ → ℕ → List ℕ → Areas
 written areas dimm at put = insert areas dimm (patched (area areas dimm) at put)
+
+-- every area but one is as before
+abbrev pub OthersKept : ℕ → Areas → Areas → Type 0
+OthersKept dimm old new = (q : ℕ) → q ≢ dimm → get new q ≡ get old q
 
 -- a write that was stopped or failed: where it goes, and the bytes there before it and after it
 pub record TornWrite : Type 0 where

@@ -1,11 +1,10 @@
-ghost use Rattle.std.specs.Prelude.{◌≡◌, ◌+◌, ◌≤◌, length, vec_len, false, IsTrue, IfOk, OnOk};
-ghost use Rattle.rig_trait.specs.Rig.{IsWithin, LeavesOnly};
-ghost use Rattle.rig_trait.specs.TwoWrites.{LeftByTwo, with_both};
+ghost use Rattle.std.specs.Prelude.{◌≡◌, ◌+◌, ◌≤◌, length, vec_len, false, IfOk};
 
 use super::*;
 use std::alloc::{AllocError, Global};
-use std::fs;
+use std::io::{Cursor, ErrorKind, Read};
 use std::test::Fail;
+use std::{fs, io};
 
 /// A rig with one area, of which no crash records are told.
 fn new_with(alloc: Global, dimm: u32, bytes: Vec<u8>) -> Result<MemoryRig, AllocError>
@@ -50,17 +49,6 @@ fn write_inside<R: Rig>(rig: &mut R, dimm: u32, at: u64, bytes: &[u8]) -> Result
         }
         _ => Ok(false),
     }
-}
-
-/// Writes to the start of an area, and then right behind. A stop at any moment leaves a front of this, or any bytes
-/// where the write goes that was stopped or failed.
-fn write_two<R: Rig>(rig: &mut R, dimm: u32, first: &[u8], second: &[u8]) -> Result<(), Failed>
-    requires { IsTrue (R.tells rig.old) → IsWithin (R.areas rig.old) dimm 0 (length first.now + length second.now) }
-    ensures any_moment { IsTrue (R.tells rig.old) → LeavesOnly R.moment R.left_since rig.old rig.new (LeftByTwo (R.areas rig.old) (R.said rig.old) dimm first.now second.now) }
-    ensures both { IsTrue (R.tells rig.old) → OnOk result (R.areas rig.new ≡ with_both (R.areas rig.old) dimm first.now second.now) }
-{
-    rig.write(dimm, 0, first)?;
-    rig.write(dimm, first.len() as u64, second)
 }
 
 fn answer<T: Drop>(is_ok: bool, value: T) -> Result<T, Failed> {
@@ -265,7 +253,7 @@ fn file_writes(rt: HostRuntime) -> Result<(), Fail> {
     fs::create_dir(&rt, "dimm-0000abce.lsa")?;
 
     let mut rig = FileRig::new(rt, alloc, ".")?;
-    assert_eq!(rt; write_two(&mut rig, 0x102, &[11, 12], &[13]), Ok(()));
+    assert_eq!(rt; write_two(&mut rig, 0x102, 0, &[11, 12], 2, &[13]), Ok(()));
     assert_eq!(rt; rig.write(0x102, 7, &[18]), Ok(()));
     assert_eq!(rt; rig.write(0x102, 8, &[]), Ok(()));
     assert_eq!(rt; (rig.faults(), rig.failed_dimm()), (0, 0));
@@ -289,5 +277,136 @@ fn file_writes(rt: HostRuntime) -> Result<(), Fail> {
 
     fs::remove_file(&rt, "dimm-00000102.lsa")?;
     fs::remove_dir(&rt, "dimm-0000abce.lsa")?;
+    Ok(())
+}
+
+/// Whether a read into a place of so many bytes, at most 8, gives these bytes, or fails where `want` is `None`.
+fn gives<S: Source>(source: &mut S, len: usize, want: Option<&[u8]>) -> bool {
+    let mut place = [0; 8];
+    if len > place.len() {
+        return false;
+    }
+    match (source.read(&mut place[..len]), want) {
+        (Ok(count), Some(want)) => &place[..count] == want,
+        (Err(Failed), None) => true,
+        _ => false,
+    }
+}
+
+/// The reads are into places of 0, 1, 3, 8, 8 and 0 bytes, of a source of "abcdef".
+#[test]
+fn memory_reads(rt: HostRuntime) -> Result<(), Fail> {
+    let alloc = rt.alloc();
+    for (listed, answers, faults) in [
+        (
+            [6, 7],
+            [
+                Some(""),
+                Some("a"),
+                Some("bcd"),
+                Some("ef"),
+                Some(""),
+                Some(""),
+            ],
+            0,
+        ),
+        (
+            [0, 0],
+            [None, Some("a"), Some("bcd"), Some("ef"), Some(""), Some("")],
+            1,
+        ),
+        (
+            [1, 6],
+            [Some(""), None, Some("abc"), Some("def"), Some(""), Some("")],
+            1,
+        ),
+        (
+            [3, 2],
+            [Some(""), Some("a"), None, None, Some("bcdef"), Some("")],
+            2,
+        ),
+        (
+            [4, 5],
+            [Some(""), Some("a"), Some("bcd"), Some("ef"), None, None],
+            2,
+        ),
+    ] {
+        let bytes = Vec::from_slice(alloc, b"abcdef")?;
+        let mut source = MemorySource::new(bytes, Vec::from_array(alloc, listed)?);
+        for (len, want) in [0, 1, 3, 8, 8, 0].into_iter().zip(answers) {
+            let want = want.map(|text| text.as_bytes());
+            assert!(rt; gives(&mut source, len, want), "{want:?} at {listed:?}");
+        }
+        assert_eq!(rt; source.faults(), faults, "at {listed:?}");
+    }
+    Ok(())
+}
+
+/// A reader of which the second read is interrupted, and the fourth fails.
+#[derive(Drop)]
+struct Unsteady {
+    left: Cursor<&'static [u8]>,
+    reads: u64,
+}
+
+impl Read for Unsteady {
+    fn read(&mut self, into: &mut [u8]) -> io::Result<usize> {
+        self.reads = self.reads.saturating_add(1);
+        match self.reads {
+            2 => Err(ErrorKind::Interrupted.into()),
+            4 => Err(ErrorKind::Other.into()),
+            _ => self.left.read(into),
+        }
+    }
+}
+
+/// The reads of sources over readers of "abcdef", into places of 1, 3, 3, 0, 8 and 8 bytes.
+#[test]
+fn reader_reads(rt: HostRuntime) {
+    let mut slice = StdSource::new(b"abcdef".as_slice());
+    let mut unsteady = StdSource::new(Unsteady {
+        left: Cursor::new(b"abcdef".as_slice()),
+        reads: 0,
+    });
+    for (len, slice_gives, unsteady_gives) in [
+        (1, "a", Some("a")),
+        (3, "bcd", None),
+        (3, "ef", Some("bcd")),
+        (0, "", None),
+        (8, "", Some("ef")),
+        (8, "", Some("")),
+    ] {
+        assert!(rt; gives(&mut slice, len, Some(slice_gives.as_bytes())));
+        let want = unsteady_gives.map(|text| text.as_bytes());
+        assert!(rt; gives(&mut unsteady, len, want), "{want:?}");
+    }
+    assert_eq!(rt; (slice.faults(), unsteady.faults()), (0, 2));
+}
+
+/// The reads of a source over a file, in the folder where the test runs.
+#[test]
+fn file_reads(rt: HostRuntime) -> Result<(), Fail> {
+    let alloc = rt.alloc();
+    fs::create_dir(&rt, "read.folder")?;
+    for path in ["read.absent", "read.folder", "/dev/null", ""] {
+        let mut source = FileSource::new(rt, alloc, path)?;
+        assert_eq!(rt; source.faults(), 0, "at {path}");
+        assert!(rt; gives(&mut source, 3, None), "at {path}");
+        assert!(rt; gives(&mut source, 0, None), "at {path}");
+        assert_eq!(rt; source.faults(), 2, "at {path}");
+    }
+    fs::remove_dir(&rt, "read.folder")?;
+
+    // The next read tries to open the file again, and one that is open stays so.
+    let mut source = FileSource::new(rt, alloc, "read.file")?;
+    assert!(rt; gives(&mut source, 3, None));
+    fs::write(&rt, "read.file", "abcdefg")?;
+    assert!(rt; gives(&mut source, 0, Some(b"")));
+    assert!(rt; gives(&mut source, 3, Some(b"abc")));
+    fs::remove_file(&rt, "read.file")?;
+    assert!(rt; gives(&mut source, 3, Some(b"def")));
+    assert!(rt; gives(&mut source, 3, Some(b"g")));
+    assert!(rt; gives(&mut source, 3, Some(b"")));
+    assert_eq!(rt; source.faults(), 1);
     Ok(())
 }
