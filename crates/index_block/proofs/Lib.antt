@@ -4,3 +4,4 @@ pub mod Texts
 pub mod Sizes
 pub mod Usable
 pub mod WrittenBits
+pub mod Behind

@@ -104,7 +104,7 @@ module _ (place : Place) (seq : ℕ) (g : Geometry) (free : List ℕ) where
       ∙ ap checksum_of (sym (sum_put (checksum_of (block_with 0 place seq g free)) 0 place seq g free))
 
   module _ (sizes : HasSizes g) (numbered : IsSeq seq) (enough : g.slots ≤ 8 * length free) where
-    length-block : length (block_text place seq g free) ≡ g.block
+    pub length-block : length (block_text place seq g free) ≡ g.block
     unfolding block_text
     length-block = omega (arith, length-map_text (g.block - 72) g.slots free (omega arith) enough)
 
