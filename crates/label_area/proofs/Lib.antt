@@ -4,4 +4,10 @@ pub mod Signed
 pub mod SlotsInUse
 pub mod Sound
 pub mod Shown
+pub mod Vacant
+pub mod BlocksWritten
+pub mod Initialised
 pub mod Searching
+pub mod States
+pub mod Initialising
+pub mod FairRecords

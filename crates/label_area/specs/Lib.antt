@@ -7,3 +7,6 @@ pub mod Kept
 pub mod Loads
 pub mod Causes
 pub mod Fair
+pub mod Inits
+pub mod InitCauses
+pub mod Looks

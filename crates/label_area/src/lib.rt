@@ -3,10 +3,12 @@
 
 mod area;
 mod blocks;
+mod init;
 mod load;
 
 pub use area::Area;
 pub use blocks::Current;
+pub use init::InitFault;
 pub use load::AreaFault;
 
 #[cfg(test)]
