@@ -11,6 +11,12 @@ use Rattle.label_codec.specs.Names.{printed_name}
 use Rattle.label_area.specs.declared.blocks.Current.{Current}
 use Rattle.label_area.specs.Seen.{Seen}
 use Rattle.label_area.specs.Modules.{AreaState, Missing, WrongSize, Ready, Foreign, Uninit, Module}
+use Rattle.nd_cli.specs.declared.lines.Key.{Key}
+use Rattle.nd_cli.specs.declared.lines.Key.TheVariants.{Dimm}
+use Rattle.nd_cli.specs.declared.lines.WordFault.{WordFault}
+use Rattle.nd_cli.specs.declared.lines.WordFault.TheVariants as faults
+use Rattle.nd_cli.specs.declared.refusals.NotReady.{NotReady}
+use Rattle.nd_cli.specs.declared.refusals.NotReady.TheVariants as states
 
 -- a number as `0x` and lower case hexadecimal digits, padded with zeros to a width: what `0x{:0width x}` prints
 abbrev pub hexadecimal : ℕ → ℕ → List ℕ
@@ -81,11 +87,43 @@ cause Ready = codes "ready"
 cause Foreign = codes "foreign"
 cause Uninit = codes "uninit"
 
-abbrev pub refusal_for : List ℕ → ℕ → List ℕ
-refusal_for word dimm = codes "refused not-ready " ++ word ++ codes " dimm=" ++ handle_text dimm ++ codes "\n"
+-- the refusals of a module
+abbrev pub not_ready : ℕ → AreaState → List ℕ
+not_ready dimm state = codes "refused not-ready " ++ cause state ++ codes " dimm=" ++ handle_text dimm ++ codes "\n"
 
-abbrev pub refusal : ℕ → AreaState → List ℕ
-refusal dimm state = refusal_for (cause state) dimm
+abbrev pub already_ready : ℕ → List ℕ
+already_ready dimm = codes "refused already-ready dimm=" ++ handle_text dimm ++ codes "\n"
+
+-- the reply to `init-labels`, and what stands in it before the number of slots
+abbrev pub initialised_front : ℕ → List ℕ
+initialised_front dimm = codes "ok initialised dimm=" ++ handle_text dimm ++ codes " slots="
+
+abbrev pub initialised_line : ℕ → ℕ → List ℕ
+initialised_line dimm slots = initialised_front dimm ++ decimal slots ++ codes "\n"
+
+-- the state that a refusal names
+abbrev pub state_of : NotReady → AreaState
+state_of states.Missing = Missing
+state_of states.WrongSize = WrongSize
+state_of states.Foreign = Foreign
+state_of states.Uninit = Uninit
+
+-- a key as it is written
+abbrev pub key_text : Key → List ℕ
+key_text Dimm = codes "dimm"
+
+-- the first fault of a line
+abbrev pub word_fault_text : WordFault → List ℕ
+word_fault_text faults.TooLong = codes "too-long"
+word_fault_text (faults.Byte at) = codes "byte at=" ++ decimal at
+word_fault_text faults.Unknown = codes "unknown"
+word_fault_text (faults.Key piece) = codes "key piece=" ++ decimal piece
+word_fault_text (faults.Twice key) = codes "twice key=" ++ key_text key
+word_fault_text (faults.Missing key) = codes "missing key=" ++ key_text key
+word_fault_text (faults.Value key) = codes "value key=" ++ key_text key
+
+abbrev pub word_refusal : WordFault → List ℕ
+word_refusal fault = codes "refused words " ++ word_fault_text fault ++ codes "\n"
 
 -- the error lines
 abbrev pub words_error : List ℕ

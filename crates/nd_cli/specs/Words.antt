@@ -1,14 +1,14 @@
 -- The words of a command line, and the form that they are.
-use Rattle.std.specs.Prelude.{ℕ, ◌^◌, ◌&&◌, Bool, List, [], ◌∷◌, ◌++◌, Option, Some, None, codes, drop, if◌then◌else◌, length, nat_eq, nat_le, nat_lt, not, slice_get, unwrap_or, String}
+use Rattle.std.specs.Prelude.{ℕ, ◌^◌, ◌&&◌, Bool, List, [], ◌∷◌, ◌++◌, Option, Some, None, codes, drop, false, if◌then◌else◌, length, nat_eq, nat_le, nat_lt, not, slice_get, unwrap_or, String}
 use Rattle.std.specs.declared.alloc.Global.{Global}
 use Rattle.std.specs.Char.{is_digit}
-use Rattle.std.specs.List.{after_first, before_first, list_all, list_any, starts_with}
+use Rattle.std.specs.List.{after_first, before_first, join_by, list_all, list_any, starts_with}
 use Rattle.std.specs.Option.{option_map}
 use Rattle.std.specs.Str.{bytes_eq}
 use Rattle.std.specs.Str.Parse.{digits_value}
 use Rattle.std.specs.String.{string_bytes}
 use Rattle.nd_cli.specs.declared.words.Form.{Form}
-use Rattle.nd_cli.specs.declared.words.Form.TheVariants.{Labels}
+use Rattle.nd_cli.specs.declared.words.Form.TheVariants.{Labels, Do}
 
 -- a word of the command line
 abbrev pub Word : Type 0
@@ -57,11 +57,28 @@ labels_form (command ∷ dir ∷ module_handle ∷ []) =
     else None
 labels_form _ = None
 
+-- `do DIR WORD...`: three words or more
+abbrev pub do_form : List Word → Option Form
+do_form (command ∷ dir ∷ word ∷ words) = Some Do
+do_form _ = None
+
+abbrev pub is_command : List ℕ → List Word → Bool
+is_command name [] = false
+is_command name (command ∷ words) = bytes_eq (string_bytes command) name
+
+-- The first of the words without a first `--` says which form they may be.
+abbrev pub operands_form : List Word → Option Form
+operands_form words = if is_command (codes "do") words then do_form words else labels_form words
+
 -- Before a first `--` no word may be an option. All words behind it are taken as they are.
 abbrev pub form_of : List Word → Option Form
 form_of words =
-    if list_any is_option (before_first is_dashes words) then None else labels_form (operands words)
+    if list_any is_option (before_first is_dashes words) then None else operands_form (operands words)
 
 -- the folder: the second word without a first `--`, or `.` where there are fewer than two
 abbrev pub dir_of : List Word → List ℕ
 dir_of words = unwrap_or (option_map string_bytes (slice_get (operands words) 1)) (codes ".")
+
+-- the line of `do`: the words behind the folder, with a space between each two
+abbrev pub line_of : List Word → List ℕ
+line_of words = join_by string_bytes (codes " ") (drop 2 (operands words))

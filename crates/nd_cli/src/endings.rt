@@ -25,12 +25,10 @@ impl Status {
     }
 }
 
-/// The reply to `labels`.
+/// The reply to a command, or to the form `labels`.
 #[derive(Drop)]
 pub enum Reply {
-    /// The labels are listed.
-    Listed(String),
-    /// The area is not Ready.
+    Accepted(String),
     Refused(String),
 }
 
@@ -38,6 +36,8 @@ pub enum Reply {
 #[derive(Drop)]
 pub enum Ending {
     Replied(Reply),
+    /// A blank line or a comment has no reply.
+    Silent,
     /// The words are no form.
     NoForm,
     /// The rig failed at an area.
@@ -52,7 +52,7 @@ impl Ending {
         ensures { code_of result ≡ status_of self.now }
     {
         match self {
-            Ending::Replied(Reply::Listed(_)) => Status::Ok,
+            Ending::Replied(Reply::Accepted(_)) | Ending::Silent => Status::Ok,
             Ending::Replied(Reply::Refused(_)) => Status::Refused,
             Ending::NoForm => Status::Words,
             Ending::AreaFailed(_) => Status::Area,
@@ -65,7 +65,8 @@ impl Ending {
         ensures { result.now ≡ text_of self.now }
     {
         match self {
-            Ending::Replied(Reply::Listed(text) | Reply::Refused(text)) => text,
+            Ending::Replied(Reply::Accepted(text) | Reply::Refused(text)) => text,
+            Ending::Silent => "",
             Ending::NoForm => "error words\n",
             Ending::AreaFailed(line) => line,
             Ending::NoMemory => "error memory\n",

@@ -6,10 +6,11 @@ ghost use Rattle.nd_cli.specs.declared.faults.RunFault.TheVariants.{Memory};
 use std::alloc::AllocError;
 
 /// The first fault of a run, which ends it.
-#[derive(Clone, Copy, Debug, PartialEq, Eq)]
+#[derive(Drop)]
 pub enum RunFault {
-    /// The rig failed at an area.
-    Area,
+    /// The rig failed at an area, with the line that says so. It was made before the rig was asked for anything, so that no
+    /// want of memory hides the fault.
+    Area(String),
     /// Memory was refused.
     Memory,
 }

@@ -5,10 +5,13 @@ ghost use Rattle.std.specs.Prelude.{◌≡◌, IfOk, IsTrue};
 ghost use Rattle.nd_cli.specs.Answers.{is_status};
 ghost use Rattle.nd_cli.specs.declared.StartFault.TheVariants.{Memory};
 
+mod commands;
 mod endings;
 mod faults;
+mod lines;
 mod listing;
 mod refusals;
+mod replies;
 mod top;
 mod words;
 

@@ -1,27 +1,107 @@
 //! The refusals, and the line of a fault at an area.
 
-ghost use Rattle.std.specs.Prelude.{◌≡◌, ◌++◌, IfOk, OnOk, string_bytes};
-ghost use Rattle.nd_cli.specs.Texts.{area_error, refusal_for};
+ghost use Rattle.std.specs.Prelude.{◌≡◌, IfOk, string_bytes};
+ghost use Rattle.nd_cli.specs.Texts.{already_ready, area_error, cause, key_text, not_ready, state_of, word_refusal};
 
+use crate::lines::{Key, WordFault};
 use std::alloc::{AllocError, Global};
 use std::fmt::Write;
 
-/// The length of the line of a fault at an area, in bytes.
-pub const AREA_ERROR: usize = 27;
+/// The state of an area that is not Ready.
+#[derive(Clone, Copy, Debug, PartialEq, Eq)]
+pub enum NotReady {
+    Missing,
+    WrongSize,
+    Foreign,
+    Uninit,
+}
 
-/// The refusal of a module whose area is in a state, by the word for it.
-pub fn refusal(alloc: Global, dimm: u32, cause: &str) -> Result<String, AllocError>
-    ensures { IfOk result (λ text. string_bytes text ≡ refusal_for cause.now dimm) }
+impl NotReady {
+    /// The word for it.
+    fn word(self) -> &'static str
+        ensures { result.now ≡ cause (state_of self) }
+    {
+        match self {
+            NotReady::Missing => "missing",
+            NotReady::WrongSize => "wrong-size",
+            NotReady::Foreign => "foreign",
+            NotReady::Uninit => "uninit",
+        }
+    }
+}
+
+/// The refusal of a module whose area is not Ready.
+pub fn not_ready(alloc: Global, dimm: u32, state: NotReady) -> Result<String, AllocError>
+    ensures { IfOk result (λ text. string_bytes text ≡ not_ready dimm (state_of state)) }
+{
+    format!(in alloc; "refused not-ready {} dimm=0x{dimm:08x}\n", state.word())
+}
+
+/// The refusal of a module whose area is Ready, by a command that makes it so.
+pub fn already_ready(alloc: Global, dimm: u32) -> Result<String, AllocError>
+    ensures { IfOk result (λ text. string_bytes text ≡ already_ready dimm) }
+{
+    format!(in alloc; "refused already-ready dimm=0x{dimm:08x}\n")
+}
+
+/// The refusal of a line that is no command, by its first fault.
+pub fn word_refusal(alloc: Global, fault: WordFault) -> Result<String, AllocError>
+    ensures { IfOk result (λ text. string_bytes text ≡ word_refusal fault) }
 {
     let mut text = String::new(alloc);
-    write!(text, "refused not-ready {cause}")?;
-    writeln!(text, " dimm=0x{dimm:08x}")?;
+    write!(text, "refused words ")?;
+    match fault {
+        WordFault::TooLong => writeln!(text, "too-long")?,
+        WordFault::Byte { at } => writeln!(text, "byte at={at}")?,
+        WordFault::Unknown => writeln!(text, "unknown")?,
+        WordFault::Key { piece } => writeln!(text, "key piece={piece}")?,
+        WordFault::Twice { key } => writeln!(text, "twice key={}", key_text(key))?,
+        WordFault::Missing { key } => writeln!(text, "missing key={}", key_text(key))?,
+        WordFault::Value { key } => writeln!(text, "value key={}", key_text(key))?,
+    }
     Ok(text)
 }
 
-/// Appends the line of a fault at the area of a module.
-pub fn push_area_error(text: &mut String, dimm: u32) -> Result<(), AllocError>
-    ensures { OnOk result (string_bytes text.new ≡ string_bytes text.old ++ area_error dimm) }
+/// A key as it is written.
+fn key_text(key: Key) -> &'static str
+    ensures { result.now ≡ key_text key }
 {
-    writeln!(text, "error area dimm=0x{dimm:08x}")
+    match key {
+        Key::Dimm => "dimm",
+    }
+}
+
+/// The line of a fault at the area of a module.
+pub fn area_error(alloc: Global, dimm: u32) -> Result<String, AllocError>
+    ensures { IfOk result (λ text. string_bytes text ≡ area_error dimm) }
+{
+    format!(in alloc; "error area dimm=0x{dimm:08x}\n")
+}
+
+#[cfg(test)]
+mod tests {
+    use super::*;
+    use std::test::Fail;
+
+    /// The first faults of lines, and the refusals that tell them.
+    #[test]
+    fn word_refusal_tests(rt: HostRuntime) -> Result<(), Fail> {
+        let key = Key::Dimm;
+        let refusals = [
+            (WordFault::TooLong, "refused words too-long\n"),
+            (WordFault::Byte { at: 4095 }, "refused words byte at=4095\n"),
+            (WordFault::Unknown, "refused words unknown\n"),
+            (WordFault::Key { piece: 2 }, "refused words key piece=2\n"),
+            (WordFault::Twice { key }, "refused words twice key=dimm\n"),
+            (
+                WordFault::Missing { key },
+                "refused words missing key=dimm\n",
+            ),
+            (WordFault::Value { key }, "refused words value key=dimm\n"),
+        ];
+        for (fault, text) in refusals {
+            assert_eq!(rt; word_refusal(rt.alloc(), fault)?.as_str(), text);
+        }
+        Ok(())
+    }
 }

@@ -403,3 +403,186 @@ fn faults(rt: HostRuntime) -> Result<(), Fail> {
     }
     Ok(())
 }
+
+/// The bytes of an area of two slots that was initialised, with these bytes in its slots.
+fn initialised(alloc: Global, slots: [u8; 256]) -> Result<Vec<u8>, AllocError> {
+    area(alloc, [block(false, 3, 0), block(true, 2, 0), slots, slots])
+}
+
+/// An area of 1,024 bytes that is initialised, twice, and listed: the lines, with the status and the text.
+#[test]
+fn initialise(rt: HostRuntime) -> Result<(), Fail> {
+    let alloc = rt.alloc();
+    let mut rig = MemoryRig::new(alloc, 4096)?;
+    rig.add(1, area(alloc, [[0; 256]; 4])?)?;
+    rig.add(2, area(alloc, [FREE; 4])?)?;
+    let rows = [
+        (
+            "do . init-labels dimm=1",
+            0,
+            "ok initialised dimm=0x00000001 slots=2\n",
+        ),
+        (
+            "do . init-labels dimm=0x1",
+            1,
+            "refused already-ready dimm=0x00000001\n",
+        ),
+        ("labels . 1", 0, "ok labels=0 slots=2 seq=3 place=0\n"),
+        ("do . # x", 0, ""),
+    ];
+    let checksum = LittleEndian::read_u64(&block(false, 3, 0)[64..]);
+    assert_eq!(rt; checksum, 0x279383A7D8323A33);
+    let mut said = String::new(alloc);
+    for (line, status, text) in rows {
+        said.push_str(text)?;
+        assert_eq!(rt;
+            nd_top(alloc, &words(alloc, line)?, &mut rig),
+            status,
+            "{line}"
+        );
+        assert_eq!(rt; rig.said(), said.as_bytes(), "{line}");
+        let bytes = rig.area(1).ok_or("no area")?;
+        assert_eq!(rt; bytes, initialised(alloc, [0; 256])?.as_slice(), "{line}");
+        let other = rig.area(2).ok_or("no area")?;
+        assert_eq!(rt; other, area(alloc, [FREE; 4])?.as_slice(), "{line}");
+    }
+    Ok(())
+}
+
+/// Areas that are not initialised, with the text. Their bytes stay as they are.
+#[test]
+fn not_initialised(rt: HostRuntime) -> Result<(), Fail> {
+    let alloc = rt.alloc();
+    let ready = block(true, 3, 0);
+    let old = of_version_1_1(block(false, 2, 0));
+    let rows = [
+        (
+            "do . init-labels dimm=1",
+            area(alloc, [FREE, ready, FREE, FREE])?,
+            "refused already-ready dimm=0x00000001\n",
+        ),
+        (
+            "do . init-labels dimm=1",
+            area(alloc, [old, FREE, FREE, FREE])?,
+            "refused not-ready foreign dimm=0x00000001\n",
+        ),
+        (
+            "do . init-labels dimm=1",
+            vec![in alloc; 7; 1000]?,
+            "refused not-ready wrong-size dimm=0x00000001\n",
+        ),
+        (
+            "do . init-labels dimm=0x101",
+            area(alloc, [[0; 256]; 4])?,
+            "refused not-ready missing dimm=0x00000101\n",
+        ),
+    ];
+    for (line, bytes, text) in rows {
+        let mut rig = MemoryRig::new(alloc, 4096)?;
+        rig.add(1, bytes.clone()?)?;
+        assert_eq!(rt; nd_top(alloc, &words(alloc, line)?, &mut rig), 1, "{text}");
+        assert_eq!(rt; rig.said(), text.as_bytes());
+        let kept = rig.area(1).ok_or("no area")?;
+        assert_eq!(rt; kept, bytes.as_slice(), "{text}");
+    }
+    Ok(())
+}
+
+/// Lines that ask for nothing of the rig, with the status and the text.
+#[test]
+fn lines(rt: HostRuntime) -> Result<(), Fail> {
+    let alloc = rt.alloc();
+    let rows = [
+        ("do . ", 0, ""),
+        ("do . #", 0, ""),
+        ("do . # init-labels dimm=1", 0, ""),
+        ("do . init-label dimm=1", 1, "refused words unknown\n"),
+        ("do . init-labels x", 1, "refused words key piece=1\n"),
+        (
+            "do . init-labels dimm=1 dimm",
+            1,
+            "refused words key piece=2\n",
+        ),
+        (
+            "do . init-labels dimm=1 dimm=1",
+            1,
+            "refused words twice key=dimm\n",
+        ),
+        ("do . init-labels", 1, "refused words missing key=dimm\n"),
+        (
+            "do . init-labels dimm=4294967296",
+            1,
+            "refused words value key=dimm\n",
+        ),
+        ("do . init-labels dimm=\n", 1, "refused words byte at=17\n"),
+        ("do . é", 1, "refused words byte at=0\n"),
+        ("do .", 2, "error words\n"),
+        ("do", 2, "error words\n"),
+    ];
+    for (line, status, text) in rows {
+        let answer = run(alloc, vec![in alloc; 0; 1024]?, line)?;
+        assert_eq!(rt; answer.0, status, "{line}");
+        assert_eq!(rt; answer.1.as_slice(), text.as_bytes(), "{line}");
+    }
+    let mut long = String::from_str(alloc, "do . #")?;
+    for _ in 1..4096 {
+        long.push('x')?;
+    }
+    assert_eq!(rt; run(alloc, Vec::new(alloc), &long)?.0, 0);
+    long.push('x')?;
+    let answer = run(alloc, Vec::new(alloc), &long)?;
+    assert_eq!(rt; answer.0, 1);
+    assert_eq!(rt; answer.1.as_slice(), b"refused words too-long\n".as_slice());
+    Ok(())
+}
+
+/// The call that fails while an area is initialised, with the status, the text, and which of the two index blocks are
+/// written then. The calls are the area's size, three reads, two writes, and the reply.
+#[test]
+fn faults_of_init(rt: HostRuntime) -> Result<(), Fail> {
+    let alloc = rt.alloc();
+    let failed = "error area dimm=0x00000001\n";
+    let rows = [
+        (0, 4, failed, [false, false]),
+        (1, 4, failed, [false, false]),
+        (2, 4, failed, [false, false]),
+        (3, 4, failed, [false, false]),
+        (4, 4, failed, [false, false]),
+        (5, 4, failed, [true, false]),
+        (6, 7, "", [true, true]),
+        (
+            7,
+            0,
+            "ok initialised dimm=0x00000001 slots=2\n",
+            [true, true],
+        ),
+    ];
+    for (call, status, text, written) in rows {
+        let mut rig = MemoryRig::new(alloc, 64)?;
+        rig.add(1, area(alloc, [FREE; 4])?)?;
+        rig.fail_at(vec![in alloc; call]?);
+        let words = words(alloc, "do . init-labels dimm=1")?;
+        assert_eq!(rt; nd_top(alloc, &words, &mut rig), status, "{call}");
+        assert_eq!(rt; rig.said(), text.as_bytes(), "{call}");
+        let first = if written[0] { block(false, 3, 0) } else { FREE };
+        let second = if written[1] { block(true, 2, 0) } else { FREE };
+        let left = rig.area(1).ok_or("no area")?;
+        assert_eq!(rt;
+            left,
+            area(alloc, [first, second, FREE, FREE])?.as_slice(),
+            "{call}"
+        );
+    }
+    Ok(())
+}
+
+/// A line without a reply is not said: a rig that fails at its first call does not fail.
+#[test]
+fn nothing_said(rt: HostRuntime) -> Result<(), Fail> {
+    let alloc = rt.alloc();
+    let mut rig = MemoryRig::new(alloc, 0)?;
+    rig.fail_at(vec![in alloc; 0]?);
+    assert_eq!(rt; nd_top(alloc, &words(alloc, "do . # x")?, &mut rig), 0);
+    assert_eq!(rt; rig.say_faults(), 0);
+    Ok(())
+}

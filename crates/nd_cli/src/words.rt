@@ -1,16 +1,20 @@
 //! The words of a command line.
 
-ghost use Rattle.std.specs.Prelude.{◌≡◌, ◌^◌, ◌++◌, ◌≤◌, slice_get};
+ghost use Rattle.std.specs.Prelude.{◌≡◌, ◌^◌, ◌++◌, ◌≤◌, IfOk, slice_get};
 ghost use Rattle.std.specs.Option.{option_copied, option_map};
 ghost use Rattle.std.specs.List.{after_first, before_first};
 ghost use Rattle.std.specs.String.{string_bytes};
-ghost use Rattle.nd_cli.specs.Words.{is_dashes, is_option, below, numeral, handle, labels_form, form_of, dir_of};
+ghost use Rattle.nd_cli.specs.Words.{is_dashes, is_option, below, numeral, handle, labels_form, do_form, operands_form, form_of, dir_of, line_of};
+
+use std::alloc::{AllocError, Global};
 
 /// The forms of command lines.
 #[derive(Clone, Copy, Debug, PartialEq, Eq)]
 pub enum Form {
     /// `labels DIR HANDLE`: the labels of the module with this device handle are listed.
     Labels { dimm: u32 },
+    /// `do DIR WORD...`: the words behind the folder, with a space between each two, are one line.
+    Do,
 }
 
 impl Form {
@@ -22,7 +26,7 @@ impl Form {
         if front.iter().any(is_option_word) {
             return None;
         }
-        labels(front, back)
+        by_command(front, back)
     }
 }
 
@@ -32,6 +36,20 @@ pub fn dir(words: &[String]) -> &str
 {
     let (front, back) = around_dashes(words);
     operand(front, back, 1).unwrap_or(".")
+}
+
+/// The line of the form `do`: the words behind the folder, with a space between each two.
+pub fn line(alloc: Global, words: &[String]) -> Result<String, AllocError>
+    ensures { IfOk result (λ line. string_bytes line ≡ line_of words.now) }
+{
+    let (front, back) = around_dashes(words);
+    let words: Vec<&str> = front
+        .iter()
+        .chain(back)
+        .skip(2)
+        .map(String::as_str)
+        .collect(alloc)?;
+    words.join(alloc, " ")
 }
 
 /// The words before a first `--`, and those behind it: none where there is no `--`.
@@ -62,6 +80,23 @@ fn is_option_word(word: &String) -> bool
     word.starts_with("-") && word.as_str() != "-"
 }
 
+/// The form of the words without a first `--`, by the first of them.
+fn by_command(front: &[String], back: &[String]) -> Option<Form>
+    ensures { result ≡ operands_form (front.now ++ back.now) }
+{
+    match operand(front, back, 0)? {
+        "do" => do_words(front, back),
+        _ => labels(front, back),
+    }
+}
+
+/// The form `do DIR WORD...`, wherever a `--` parts its words.
+fn do_words(front: &[String], back: &[String]) -> Option<Form>
+    ensures { result ≡ do_form (front.now ++ back.now) }
+{
+    operand(front, back, 2).map(|_| Form::Do)
+}
+
 /// The form `labels DIR HANDLE`, wherever a `--` parts its words.
 fn labels(front: &[String], back: &[String]) -> Option<Form>
     ensures { result ≡ labels_form (front.now ++ back.now) }
@@ -76,7 +111,7 @@ fn labels(front: &[String], back: &[String]) -> Option<Form>
 }
 
 /// A device handle: a number below 2^32, as 1 to 20 decimal digits, or `0x` and 1 to 16 hexadecimal ones of either case.
-fn read_handle(text: &str) -> Option<u32>
+pub(crate) fn read_handle(text: &str) -> Option<u32>
     ensures { result ≡ handle text.now }
 {
     match text.strip_prefix("0x") {
@@ -100,7 +135,6 @@ fn read_numeral(digits: &str, base: u32, most: usize) -> Option<u32>
 #[cfg(test)]
 mod tests {
     use super::*;
-    use std::alloc::{AllocError, Global};
     use std::test::Fail;
 
     fn split_at_spaces(alloc: Global, line: &str) -> Result<Vec<String>, AllocError> {
@@ -159,6 +193,45 @@ mod tests {
         }
         assert_eq!(rt; Form::of(&[]), None);
         assert_eq!(rt; dir(&[]), ".");
+        Ok(())
+    }
+
+    /// Words, whether they are the form `do`, the folder and the line.
+    #[test]
+    fn do_tests(rt: HostRuntime) -> Result<(), Fail> {
+        let lines = [
+            ("do pm x", Some(Form::Do), "pm", "x"),
+            ("do pm x y=1", Some(Form::Do), "pm", "x y=1"),
+            ("do pm x  y", Some(Form::Do), "pm", "x  y"),
+            ("do pm ", Some(Form::Do), "pm", ""),
+            ("do pm a ", Some(Form::Do), "pm", "a "),
+            ("do pm  a", Some(Form::Do), "pm", " a"),
+            ("do pm", None, "pm", ""),
+            ("do", None, ".", ""),
+            ("do -x y", None, "-x", "y"),
+            ("do -- -x y", Some(Form::Do), "-x", "y"),
+            ("do pm -x", None, "pm", "-x"),
+            ("do pm - x", Some(Form::Do), "pm", "- x"),
+            ("do pm -- -x", Some(Form::Do), "pm", "-x"),
+            ("do pm -- -- x", Some(Form::Do), "pm", "-- x"),
+            ("do -- pm a -- b", Some(Form::Do), "pm", "a -- b"),
+            ("do pm x --", Some(Form::Do), "pm", "x"),
+            ("do pm --", None, "pm", ""),
+            ("do pm -- ", Some(Form::Do), "pm", ""),
+            ("-- do pm x", Some(Form::Do), "pm", "x"),
+            ("-- -- do pm x", None, "do", "pm x"),
+            ("do labels pm 1", Some(Form::Do), "labels", "pm 1"),
+            ("Do pm x", None, "pm", "x"),
+            ("do. pm x", None, "pm", "x"),
+            ("", None, ".", ""),
+        ];
+        for (spaced, form, folder, joined) in lines {
+            let words = split_at_spaces(rt.alloc(), spaced)?;
+            assert_eq!(rt; Form::of(&words), form, "at {spaced}");
+            assert_eq!(rt; dir(&words), folder, "at {spaced}");
+            assert_eq!(rt; line(rt.alloc(), &words)?.as_str(), joined, "at {spaced}");
+        }
+        assert_eq!(rt; line(rt.alloc(), &[])?.as_str(), "");
         Ok(())
     }
 }

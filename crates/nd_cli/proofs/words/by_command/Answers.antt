@@ -1,0 +1,25 @@
+use Rattle.std.proofs.Common.{◌≡◌, Some, List, ℕ, [], ◌∷◌, ◌++◌, codes, slice_get, ap, sym, ◌∙◌}
+use Rattle.std.specs.Option.{option_map}
+use Rattle.std.specs.Str.{bytes_eq}
+use Rattle.std.specs.String.{string_bytes}
+use Rattle.std.proofs.lemmas.Bool.{cond-true, cond-false, false_from_ne_true}
+use Rattle.std.proofs.lemmas.Slice.Eq.{bytes_eq-Decides}
+use Rattle.nd_cli.specs.Words.{Word, is_command}
+use Rattle.nd_cli.proofs.words.by_command.Goals as goal
+
+-- the test of the first word
+is_command_is : (name : List ℕ) (words : List Word) (command : List ℕ) → Some command ≡ option_map string_bytes (slice_get words 0) → is_command name words ≡ bytes_eq command name
+is_command_is name [] command first = cc
+is_command_is name (word ∷ words) command first =
+    let is : string_bytes word ≡ command = cc in
+    ap (λ text. bytes_eq text name) is
+
+pub returns-in-do : goal.returns-in-do
+returns-in-do c =
+    let test = is_command_is (codes "do") (c.args.front.now ++ c.args.back.now) _ c.in_ok-operand.ensures in
+    c.do_words.ensures ∙ sym (cond-true _ _ _ (test ∙ (bytes_eq-Decides _ _).1 c.in-do.is))
+
+pub returns-in_default : goal.returns-in_default
+returns-in_default c =
+    let test = is_command_is (codes "do") (c.args.front.now ++ c.args.back.now) _ c.in_ok-operand.ensures in
+    c.labels.ensures ∙ sym (cond-false _ _ _ (test ∙ false_from_ne_true _ (λ same. c.in_default.not-do ((bytes_eq-Decides _ _).0 same))))
