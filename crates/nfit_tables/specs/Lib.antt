@@ -1,0 +1,5 @@
+pub mod Spelling
+pub mod Proper
+pub mod Reading
+pub mod Fitting
+pub mod Seen

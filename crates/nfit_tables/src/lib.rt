@@ -1,0 +1,23 @@
+//! NVDIMM Firmware Interface Tables (ACPI 6.2, section 5.2.25), read and written, exactly both ways.
+#![tactic(auto)]
+
+mod counting;
+mod fault;
+mod fields;
+mod laws;
+mod pieces;
+mod reading;
+mod seen;
+mod sums;
+mod writing;
+
+pub use fault::{NfitFault, ReadNfit};
+pub use laws::one_table;
+pub use pieces::{
+    ControlPiece, Header, InterleavePiece, KeptPiece, MappingPiece, Nfit, Piece, RangePiece,
+};
+pub use reading::read_nfit;
+pub use writing::{fits, write_nfit};
+
+#[cfg(test)]
+mod tests;

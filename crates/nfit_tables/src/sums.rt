@@ -1,0 +1,14 @@
+//! The sum of bytes.
+
+ghost use Rattle.std.specs.Prelude.{◌≡◌, ◌%◌, sum};
+
+/// The sum of all bytes modulo 256.
+pub(crate) fn sum_of(bytes: &[u8]) -> u8
+    ensures { result ≡ sum bytes.now % 256 }
+{
+    let mut total: u8 = 0;
+    for byte in bytes {
+        total = total.wrapping_add(*byte);
+    }
+    total
+}

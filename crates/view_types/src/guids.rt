@@ -1,0 +1,16 @@
+//! The GUIDs of the standard (ACPI 6.2, section 5.2.25.2), as their bytes stand.
+
+ghost use Rattle.std.specs.Prelude.{◌≡◌};
+ghost use Rattle.view_types.specs.Guids.{persistent_memory};
+
+/// Persistent memory: 66F0D379-B4F3-4074-AC43-0D3318B78CDB.
+pub const PERSISTENT_MEMORY: [u8; 16] = [
+    0x79, 0xd3, 0xf0, 0x66, 0xf3, 0xb4, 0x74, 0x40, 0xac, 0x43, 0x0d, 0x33, 0x18, 0xb7, 0x8c, 0xdb,
+];
+
+/// The bytes of `PERSISTENT_MEMORY`.
+pub fn persistent_memory() -> [u8; 16]
+    ensures { result ≡ persistent_memory }
+{
+    PERSISTENT_MEMORY
+}

@@ -1,0 +1,11 @@
+//! The plain types that layers hand to each other.
+#![tactic(auto)]
+
+mod guids;
+mod list;
+
+pub use guids::{PERSISTENT_MEMORY, persistent_memory};
+pub use list::List;
+
+#[cfg(test)]
+mod tests;
