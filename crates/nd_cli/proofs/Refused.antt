@@ -1,18 +1,15 @@
 -- The answer to the form `labels` where the area is not Ready.
-use Rattle.std.proofs.Common.{◌≡◌, ◌≢◌, ℕ, List, Option, Some, None, Result, Ok, Err, refl, sym, ap, ◌∙◌}
+use Rattle.std.proofs.Common.{◌≡◌, ◌≢◌, ℕ, List, Option, Some, None, refl, sym, ap, ◌∙◌}
 use Rattle.std.specs.FinMap.{get}
 use Rattle.std.specs.Option.{option_and_then}
-use Rattle.std.specs.Prelude.{length, IfOk}
+use Rattle.std.specs.Prelude.{length}
 use Rattle.rig_trait.specs.Rig.{Areas}
 use Rattle.index_block.specs.declared.geometry.Geometry.{Geometry}
 use Rattle.index_block.specs.Geometry.{geometry_of}
 use Rattle.label_area.specs.declared.blocks.Current.{Current}
 use Rattle.label_area.specs.Blocks.{current_block, current_in}
 use Rattle.label_area.specs.Modules.{AreaState, Ready, area_state, state_by_blocks, state_by_size}
-use Rattle.nd_cli.specs.declared.endings.Reply.{Reply}
-use Rattle.nd_cli.specs.declared.faults.RunFault.{RunFault}
-use Rattle.nd_cli.specs.Endings.{answer_in}
-use Rattle.nd_cli.specs.Answers.{labels_answer, listing_answer, refusal}
+use Rattle.nd_cli.specs.Answers.{Answer, labels_answer, listing_answer, refusal}
 use Rattle.nd_cli.specs.Texts.{not_ready}
 
 ready_by_size : (layout : Option Geometry) (bytes : List ℕ) (current : Current) → option_and_then (λ g. current_in g bytes) layout ≡ Some current → state_by_size layout bytes ≡ Ready
@@ -33,8 +30,6 @@ module _ (dimm : ℕ) (areas : Areas) (state : AreaState) (is : area_state (get 
   pub labels_answer-refused : labels_answer dimm areas ≡ refusal (not_ready dimm state) areas
   labels_answer-refused = refused (current_block (get areas dimm)) refl
 
-  -- the reply that says so
-  pub IfOk-refused : (now : Areas) (result : Result Reply RunFault) → now ≡ areas → IfOk result (λ reply. (left : Areas) → answer_in reply left ≡ refusal (not_ready dimm state) left)
-      → IfOk result (λ reply. answer_in reply now ≡ labels_answer dimm areas)
-  IfOk-refused now (Ok reply) kept says = says now ∙ ap (refusal (not_ready dimm state)) kept ∙ sym labels_answer-refused
-  IfOk-refused now (Err fault) kept says = tt
+  -- an answer that says so
+  pub is_labels_answer : (now : Areas) (made : Answer) → now ≡ areas → made ≡ refusal (not_ready dimm state) now → made ≡ labels_answer dimm areas
+  is_labels_answer now made kept is = is ∙ ap (refusal (not_ready dimm state)) kept ∙ sym labels_answer-refused

@@ -5,3 +5,4 @@ pub mod Answers
 pub mod Faults
 pub mod Endings
 pub mod Stops
+pub mod Tables

@@ -1,5 +1,5 @@
 -- What a stop leaves at any moment of a run.
-use Rattle.std.specs.Prelude.{◌≡◌, ◌≢◌, ◌⊎◌, ℕ, List, ◌++◌, Option, Some, None, Result, Ok, Err}
+use Rattle.std.specs.Prelude.{◌≡◌, ◌≢◌, ◌⊎◌, ℕ, List, ◌++◌, Option, Some, None, Result, Ok, Err, take}
 use Rattle.std.specs.FinMap.{get}
 use Rattle.rig_trait.specs.Rig.{Areas, CrashRecord}
 use Rattle.label_area.specs.Fair.{IsFair}
@@ -10,6 +10,8 @@ use Rattle.nd_cli.specs.declared.lines.Command.TheVariants.{InitLabels}
 use Rattle.nd_cli.specs.declared.lines.WordFault.{WordFault}
 use Rattle.nd_cli.specs.declared.words.Form.{Form}
 use Rattle.nd_cli.specs.declared.words.Form.TheVariants.{Labels, Do}
+use Rattle.nd_cli.specs.declared.endings.Ending.{Ending}
+use Rattle.nd_cli.specs.Endings.{text_of}
 use Rattle.nd_cli.specs.Lines.{command_in}
 use Rattle.nd_cli.specs.Texts.{initialised_line}
 use Rattle.nd_cli.specs.Words.{Word, form_of, line_of}
@@ -52,3 +54,9 @@ pub record IsLeft (named : Option ℕ) (areas : Areas) (said : List ℕ) (c : Cr
   pub acknowledged : (dimm : ℕ) → named ≡ Some dimm → area_state (get areas dimm) ≡ Uninit
       → (more : List ℕ) → c.said ≡ said ++ initialised_line dimm (slots_of (get areas dimm)) ++ more
       → IsVacant (get c.areas dimm) (slots_of (get areas dimm))
+
+-- a run that ends so says that the named area is initialised only where it is
+abbrev pub Acknowledges : Option ℕ → Areas → Areas → Ending → Type 0
+Acknowledges named areas now ending = (dimm : ℕ) → named ≡ Some dimm → area_state (get areas dimm) ≡ Uninit
+    → (n : ℕ) (more : List ℕ) → take n (text_of ending) ≡ initialised_line dimm (slots_of (get areas dimm)) ++ more
+    → IsVacant (get now dimm) (slots_of (get areas dimm))

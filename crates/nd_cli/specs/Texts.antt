@@ -11,6 +11,8 @@ use Rattle.label_codec.specs.Names.{printed_name}
 use Rattle.label_area.specs.declared.blocks.Current.{Current}
 use Rattle.label_area.specs.Seen.{Seen}
 use Rattle.label_area.specs.Modules.{AreaState, Missing, WrongSize, Ready, Foreign, Uninit, Module}
+use Rattle.nfit_tables.specs.declared.fault.NfitFault.{NfitFault}
+use Rattle.nfit_tables.specs.declared.fault.NfitFault.TheVariants as nfit
 use Rattle.nd_cli.specs.declared.lines.Key.{Key}
 use Rattle.nd_cli.specs.declared.lines.Key.TheVariants.{Dimm}
 use Rattle.nd_cli.specs.declared.lines.WordFault.{WordFault}
@@ -134,3 +136,24 @@ area_error dimm = codes "error area dimm=" ++ handle_text dimm ++ codes "\n"
 
 abbrev pub memory_error : List ℕ
 memory_error = codes "error memory\n"
+
+-- the source of the NFIT failed, and it gives more bytes than an NFIT may have
+abbrev pub source_error : List ℕ
+source_error = codes "error source nfit\n"
+
+abbrev pub limit_error : List ℕ
+limit_error = codes "error limit nfit\n"
+
+-- why bytes are no NFIT
+abbrev pub nfit_fault_text : NfitFault → List ℕ
+nfit_fault_text (nfit.Short len) = codes "short length=" ++ decimal len
+nfit_fault_text nfit.Signature = codes "signature"
+nfit_fault_text (nfit.Length told len) = codes "length told=" ++ decimal told ++ codes " length=" ++ decimal len
+nfit_fault_text (nfit.Revision value) = codes "revision value=" ++ decimal value
+nfit_fault_text (nfit.Checksum sum) = codes "checksum sum=" ++ decimal sum
+nfit_fault_text (nfit.Structure at) = codes "structure at=" ++ decimal at
+nfit_fault_text (nfit.TwiceIndex kind index) = codes "twice-index kind=" ++ decimal kind ++ codes " index=" ++ decimal index
+nfit_fault_text (nfit.TooMany kind) = codes "too-many kind=" ++ decimal kind
+
+abbrev pub nfit_error : NfitFault → List ℕ
+nfit_error fault = codes "error nfit " ++ nfit_fault_text fault ++ codes "\n"

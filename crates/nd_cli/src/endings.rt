@@ -10,7 +10,9 @@ pub enum Status {
     Ok = 0,
     Refused = 1,
     Words = 2,
+    Nfit = 3,
     Area = 4,
+    Source = 5,
     Memory = 6,
     Say = 7,
 }
@@ -40,8 +42,14 @@ pub enum Ending {
     Silent,
     /// The words are no form.
     NoForm,
+    /// The NFIT is none.
+    NfitRefused(String),
     /// The rig failed at an area.
     AreaFailed(String),
+    /// The source of the NFIT failed.
+    SourceFailed,
+    /// The source of the NFIT has more bytes than an NFIT may have.
+    TooLong,
     /// Memory was refused.
     NoMemory,
 }
@@ -55,7 +63,9 @@ impl Ending {
             Ending::Replied(Reply::Accepted(_)) | Ending::Silent => Status::Ok,
             Ending::Replied(Reply::Refused(_)) => Status::Refused,
             Ending::NoForm => Status::Words,
+            Ending::NfitRefused(_) => Status::Nfit,
             Ending::AreaFailed(_) => Status::Area,
+            Ending::SourceFailed | Ending::TooLong => Status::Source,
             Ending::NoMemory => Status::Memory,
         }
     }
@@ -68,7 +78,9 @@ impl Ending {
             Ending::Replied(Reply::Accepted(text) | Reply::Refused(text)) => text,
             Ending::Silent => "",
             Ending::NoForm => "error words\n",
-            Ending::AreaFailed(line) => line,
+            Ending::NfitRefused(line) | Ending::AreaFailed(line) => line,
+            Ending::SourceFailed => "error source nfit\n",
+            Ending::TooLong => "error limit nfit\n",
             Ending::NoMemory => "error memory\n",
         }
     }

@@ -12,11 +12,12 @@ mod lines;
 mod listing;
 mod refusals;
 mod replies;
+mod tables;
 mod top;
 mod words;
 
 use endings::Status;
-use rig_trait::FileRig;
+use rig_trait::{FileRig, FileSource};
 use std::alloc::{AllocError, Global};
 use std::env;
 use std::io::ErrorKind;
@@ -53,8 +54,10 @@ fn run(rt: HostRuntime) -> Result<u8, StartFault>
 {
     let alloc = rt.alloc();
     let words = words_of(&rt, alloc)?;
-    let mut rig = FileRig::new(rt, alloc, words::dir(&words))?;
-    Ok(nd_top(alloc, &words, &mut rig))
+    let dir = words::dir(&words);
+    let mut rig = FileRig::new(rt, alloc, dir)?;
+    let mut nfit = FileSource::new(rt, alloc, &format!(in alloc; "{dir}/nfit.bin")?)?;
+    Ok(nd_top(alloc, &words, &mut rig, &mut nfit))
 }
 
 /// The arguments behind the program's name.

@@ -1,9 +1,10 @@
-//! The refusals, and the line of a fault at an area.
+//! The refusals, and the lines of faults.
 
 ghost use Rattle.std.specs.Prelude.{◌≡◌, IfOk, string_bytes};
-ghost use Rattle.nd_cli.specs.Texts.{already_ready, area_error, cause, key_text, not_ready, state_of, word_refusal};
+ghost use Rattle.nd_cli.specs.Texts.{already_ready, area_error, cause, key_text, nfit_error, not_ready, state_of, word_refusal};
 
 use crate::lines::{Key, WordFault};
+use nfit_tables::NfitFault;
 use std::alloc::{AllocError, Global};
 use std::fmt::Write;
 
@@ -76,6 +77,26 @@ pub fn area_error(alloc: Global, dimm: u32) -> Result<String, AllocError>
     ensures { IfOk result (λ text. string_bytes text ≡ area_error dimm) }
 {
     format!(in alloc; "error area dimm=0x{dimm:08x}\n")
+}
+
+/// The line of bytes that are no NFIT.
+pub fn nfit_error(alloc: Global, fault: NfitFault) -> Result<String, AllocError>
+    ensures { IfOk result (λ text. string_bytes text ≡ nfit_error fault) }
+{
+    match fault {
+        NfitFault::Short { len } => format!(in alloc; "error nfit short length={len}\n"),
+        NfitFault::Signature => format!(in alloc; "error nfit signature\n"),
+        NfitFault::Length { told, len } => {
+            format!(in alloc; "error nfit length told={told} length={len}\n")
+        }
+        NfitFault::Revision { value } => format!(in alloc; "error nfit revision value={value}\n"),
+        NfitFault::Checksum { sum } => format!(in alloc; "error nfit checksum sum={sum}\n"),
+        NfitFault::Structure { at } => format!(in alloc; "error nfit structure at={at}\n"),
+        NfitFault::TwiceIndex { kind, index } => {
+            format!(in alloc; "error nfit twice-index kind={kind} index={index}\n")
+        }
+        NfitFault::TooMany { kind } => format!(in alloc; "error nfit too-many kind={kind}\n"),
+    }
 }
 
 #[cfg(test)]

@@ -5,9 +5,10 @@ ghost use Rattle.std.specs.Prelude.{◌≡◌, ◌+◌, ◌%◌, ◌≤◌};
 use crate::top::nd_top;
 use byteorder::{ByteOrder, LittleEndian};
 use fletcher64::fletcher64_but;
-use rig_trait::{MemoryRig, Rig};
+use rig_trait::{MemoryRig, MemorySource, Rig, Source};
 use std::alloc::{AllocError, Global};
 use std::test::Fail;
+use view_types::PERSISTENT_MEMORY;
 
 /// The uuid 0f6b1a52-7c3e-4d28-9a41-5be0c7d2e813.
 const UUID: [u8; 16] = [
@@ -103,8 +104,78 @@ fn words(alloc: Global, line: &str) -> Result<Vec<String>, AllocError> {
 fn run(alloc: Global, bytes: Vec<u8>, line: &str) -> Result<(u8, Vec<u8>), AllocError> {
     let mut rig = MemoryRig::new(alloc, 4096)?;
     rig.add(1, bytes)?;
-    let status = nd_top(alloc, &words(alloc, line)?, &mut rig);
+    let status = run_on(alloc, line, &mut rig)?;
     Ok((status, rig.said().to_vec(alloc)?))
+}
+
+/// The status of a line on a platform whose NFIT has no structures.
+fn run_on(alloc: Global, line: &str, rig: &mut MemoryRig) -> Result<u8, AllocError> {
+    let mut nfit = MemorySource::new(table(alloc, &[])?, Vec::new(alloc));
+    Ok(nd_top(alloc, &words(alloc, line)?, rig, &mut nfit))
+}
+
+/// The bytes of an NFIT with these structures. The texts of its header are spaces, and the numbers 0.
+fn table(alloc: Global, structures: &[u8]) -> Result<Vec<u8>, AllocError> {
+    let len = u32::try_from(structures.len())
+        .unwrap_or(u32::MAX)
+        .saturating_add(40);
+    let mut table = Vec::new(alloc);
+    table.extend_from_slice(b"NFIT")?;
+    table.extend_from_slice(&len.to_le_bytes())?;
+    table.extend_from_slice(b"\x01\0              ")?;
+    table.extend_from_slice(&[0; 16])?;
+    table.extend_from_slice(structures)?;
+    let sum = table.iter().fold(0u8, |sum, byte| sum.wrapping_add(*byte));
+    if let Some(checksum) = table.get_mut(9) {
+        *checksum = sum.wrapping_neg();
+    }
+    Ok(table)
+}
+
+/// Two modules of 64 GiB in one region of 128 GiB at 0x100000000: an address range, two control regions, the interleave
+/// of every second line of 4,096 bytes, and two mappings.
+fn two_modules(alloc: Global) -> Result<Vec<u8>, AllocError> {
+    let mut range = [0; 56];
+    range[2] = 56;
+    range[4] = 1;
+    range[16..32].copy_from_slice(&PERSISTENT_MEMORY);
+    range[36] = 1;
+    range[44] = 32;
+    let mut control = [0; 32];
+    control[0] = 4;
+    control[2] = 32;
+    control[6] = 0x34;
+    control[7] = 0x12;
+    let mut interleave = [0; 24];
+    interleave[0] = 2;
+    interleave[2] = 24;
+    interleave[4] = 1;
+    interleave[8] = 2;
+    interleave[13] = 0x10;
+    interleave[20] = 2;
+    let mut mapping = [0; 48];
+    mapping[0] = 1;
+    mapping[2] = 48;
+    mapping[4] = 1;
+    mapping[12] = 1;
+    mapping[20] = 16;
+    mapping[40] = 1;
+    mapping[42] = 2;
+    let mut structures = Vec::new(alloc);
+    structures.extend_from_slice(&range)?;
+    for index in [1, 2] {
+        control[4] = index;
+        control[24] = index;
+        structures.extend_from_slice(&control)?;
+    }
+    structures.extend_from_slice(&interleave)?;
+    for index in [1, 2] {
+        mapping[5] = index - 1;
+        mapping[14] = index;
+        mapping[25] = (index - 1) << 4;
+        structures.extend_from_slice(&mapping)?;
+    }
+    Ok(structures)
 }
 
 const FREE: [u8; 256] = [0xee; 256];
@@ -334,7 +405,8 @@ fn words_and_sizes(rt: HostRuntime) -> Result<(), Fail> {
         assert_eq!(rt; answer.1.as_slice(), text.as_bytes(), "{line}");
     }
     let mut rig = MemoryRig::new(alloc, 64)?;
-    assert_eq!(rt; nd_top(alloc, &[], &mut rig), 2);
+    let mut nfit = MemorySource::new(Vec::new(alloc), Vec::new(alloc));
+    assert_eq!(rt; nd_top(alloc, &[], &mut rig, &mut nfit), 2);
     assert_eq!(rt; rig.said(), b"error words\n".as_slice());
     Ok(())
 }
@@ -391,11 +463,7 @@ fn faults(rt: HostRuntime) -> Result<(), Fail> {
         let parts = [block(false, 3, 0), block(true, 2, 0), FREE, FREE];
         rig.add(1, area(alloc, parts)?)?;
         rig.fail_at(listed.to_vec(alloc)?);
-        assert_eq!(rt;
-            nd_top(alloc, &words(alloc, line)?, &mut rig),
-            status,
-            "{line}"
-        );
+        assert_eq!(rt; run_on(alloc, line, &mut rig)?, status, "{line}");
         assert_eq!(rt; rig.said(), text.as_bytes(), "{line}");
         assert_eq!(rt; rig.reads(), reads, "{line}");
         let kept = rig.area(1).ok_or("no area")?;
@@ -435,11 +503,7 @@ fn initialise(rt: HostRuntime) -> Result<(), Fail> {
     let mut said = String::new(alloc);
     for (line, status, text) in rows {
         said.push_str(text)?;
-        assert_eq!(rt;
-            nd_top(alloc, &words(alloc, line)?, &mut rig),
-            status,
-            "{line}"
-        );
+        assert_eq!(rt; run_on(alloc, line, &mut rig)?, status, "{line}");
         assert_eq!(rt; rig.said(), said.as_bytes(), "{line}");
         let bytes = rig.area(1).ok_or("no area")?;
         assert_eq!(rt; bytes, initialised(alloc, [0; 256])?.as_slice(), "{line}");
@@ -480,7 +544,7 @@ fn not_initialised(rt: HostRuntime) -> Result<(), Fail> {
     for (line, bytes, text) in rows {
         let mut rig = MemoryRig::new(alloc, 4096)?;
         rig.add(1, bytes.clone()?)?;
-        assert_eq!(rt; nd_top(alloc, &words(alloc, line)?, &mut rig), 1, "{text}");
+        assert_eq!(rt; run_on(alloc, line, &mut rig)?, 1, "{text}");
         assert_eq!(rt; rig.said(), text.as_bytes());
         let kept = rig.area(1).ok_or("no area")?;
         assert_eq!(rt; kept, bytes.as_slice(), "{text}");
@@ -561,8 +625,11 @@ fn faults_of_init(rt: HostRuntime) -> Result<(), Fail> {
         let mut rig = MemoryRig::new(alloc, 64)?;
         rig.add(1, area(alloc, [FREE; 4])?)?;
         rig.fail_at(vec![in alloc; call]?);
-        let words = words(alloc, "do . init-labels dimm=1")?;
-        assert_eq!(rt; nd_top(alloc, &words, &mut rig), status, "{call}");
+        assert_eq!(rt;
+            run_on(alloc, "do . init-labels dimm=1", &mut rig)?,
+            status,
+            "{call}"
+        );
         assert_eq!(rt; rig.said(), text.as_bytes(), "{call}");
         let first = if written[0] { block(false, 3, 0) } else { FREE };
         let second = if written[1] { block(true, 2, 0) } else { FREE };
@@ -582,7 +649,171 @@ fn nothing_said(rt: HostRuntime) -> Result<(), Fail> {
     let alloc = rt.alloc();
     let mut rig = MemoryRig::new(alloc, 0)?;
     rig.fail_at(vec![in alloc; 0]?);
-    assert_eq!(rt; nd_top(alloc, &words(alloc, "do . # x")?, &mut rig), 0);
+    assert_eq!(rt; run_on(alloc, "do . # x", &mut rig)?, 0);
     assert_eq!(rt; rig.say_faults(), 0);
+    Ok(())
+}
+
+/// The bytes of an NFIT, with the status and the text of a line that would initialise an area. Where it is refused, the
+/// area stays as it is.
+#[test]
+fn tables(rt: HostRuntime) -> Result<(), Fail> {
+    let alloc = rt.alloc();
+    let structures = two_modules(alloc)?;
+    let whole = table(alloc, &structures)?;
+    assert_eq!(rt; whole.len(), 280);
+    let mut short = whole.clone()?;
+    short.truncate(39);
+    let mut cut = whole.clone()?;
+    cut.truncate(279);
+    let mut raised = whole.clone()?;
+    raised[9] = raised[9].wrapping_add(1);
+    let mut other_revision = whole.clone()?;
+    other_revision[8] = 2;
+    let mut twice = structures.clone()?;
+    twice.extend_from_slice(&structures)?;
+    let accepted = "ok initialised dimm=0x00000001 slots=2\n";
+    let rows = [
+        (whole.clone()?, 0, accepted),
+        (table(alloc, &[])?, 0, accepted),
+        (table(alloc, &[9, 0, 6, 0, 1, 2])?, 0, accepted),
+        (short, 3, "error nfit short length=39\n"),
+        (Vec::new(alloc), 3, "error nfit short length=0\n"),
+        (vec![in alloc; 0; 40]?, 3, "error nfit signature\n"),
+        (cut, 3, "error nfit length told=280 length=279\n"),
+        (other_revision, 3, "error nfit revision value=2\n"),
+        (raised, 3, "error nfit checksum sum=1\n"),
+        (table(alloc, &[0; 4])?, 3, "error nfit structure at=40\n"),
+        (
+            table(alloc, &twice)?,
+            3,
+            "error nfit twice-index kind=0 index=1\n",
+        ),
+    ];
+    for (bytes, status, text) in rows {
+        let mut rig = MemoryRig::new(alloc, 64)?;
+        rig.add(1, area(alloc, [[0; 256]; 4])?)?;
+        let mut nfit = MemorySource::new(bytes, Vec::new(alloc));
+        let words = words(alloc, "do . init-labels dimm=1")?;
+        assert_eq!(rt;
+            nd_top(alloc, &words, &mut rig, &mut nfit),
+            status,
+            "{text}"
+        );
+        assert_eq!(rt; rig.said(), text.as_bytes());
+        let left = rig.area(1).ok_or("no area")?;
+        let expected = if status == 0 {
+            initialised(alloc, [0; 256])?
+        } else {
+            area(alloc, [[0; 256]; 4])?
+        };
+        assert_eq!(rt; left, expected.as_slice(), "{text}");
+    }
+    Ok(())
+}
+
+/// How many ranges of persistent memory, or modules, an NFIT has, and what is said of it.
+#[test]
+fn too_many(rt: HostRuntime) -> Result<(), Fail> {
+    let alloc = rt.alloc();
+    let rows = [
+        (64, 64, "ok initialised dimm=0x00000001 slots=2\n"),
+        (65, 64, "error nfit too-many kind=0\n"),
+        (64, 65, "error nfit too-many kind=1\n"),
+        (65, 65, "error nfit too-many kind=0\n"),
+    ];
+    for (ranges, modules, text) in rows {
+        let mut range = [0; 56];
+        range[2] = 56;
+        range[16..32].copy_from_slice(&PERSISTENT_MEMORY);
+        let mut mapping = [0; 48];
+        mapping[0] = 1;
+        mapping[2] = 48;
+        let mut bytes = Vec::new(alloc);
+        for index in 1..=ranges {
+            range[4] = index;
+            bytes.extend_from_slice(&range)?;
+        }
+        for handle in 1..=modules {
+            mapping[4] = handle;
+            bytes.extend_from_slice(&mapping)?;
+        }
+        let mut rig = MemoryRig::new(alloc, 64)?;
+        rig.add(1, area(alloc, [[0; 256]; 4])?)?;
+        let bytes = table(alloc, &bytes)?;
+        let mut nfit = MemorySource::new(bytes, Vec::new(alloc));
+        nd_top(
+            alloc,
+            &words(alloc, "do . init-labels dimm=1")?,
+            &mut rig,
+            &mut nfit,
+        );
+        assert_eq!(rt; rig.said(), text.as_bytes());
+    }
+    Ok(())
+}
+
+/// The read of the source that fails, the call of the rig that fails, and the line, with the status and the text. The NFIT
+/// has 280 bytes, which are read by two calls.
+#[test]
+fn faults_of_the_source(rt: HostRuntime) -> Result<(), Fail> {
+    let alloc = rt.alloc();
+    let line = "do . init-labels dimm=1";
+    let rows = [
+        (line, 0, 9, 5, "error source nfit\n", 1),
+        (line, 1, 9, 5, "error source nfit\n", 1),
+        (line, 0, 0, 7, "", 1),
+        (line, 2, 9, 0, "ok initialised dimm=0x00000001 slots=2\n", 0),
+        (line, 2, 0, 4, "error area dimm=0x00000001\n", 0),
+        ("do . # x", 0, 9, 5, "error source nfit\n", 1),
+        ("do . x", 1, 9, 5, "error source nfit\n", 1),
+        ("do .", 0, 9, 2, "error words\n", 0),
+        (
+            "labels . 1",
+            0,
+            9,
+            1,
+            "refused not-ready uninit dimm=0x00000001\n",
+            0,
+        ),
+    ];
+    for (line, read, call, status, text, faults) in rows {
+        let mut rig = MemoryRig::new(alloc, 64)?;
+        rig.add(1, area(alloc, [[0; 256]; 4])?)?;
+        rig.fail_at(vec![in alloc; call]?);
+        let bytes = table(alloc, &two_modules(alloc)?)?;
+        let mut nfit = MemorySource::new(bytes, vec![in alloc; read]?);
+        let words = words(alloc, line)?;
+        assert_eq!(rt;
+            nd_top(alloc, &words, &mut rig, &mut nfit),
+            status,
+            "{line} {read}"
+        );
+        assert_eq!(rt; rig.said(), text.as_bytes());
+        assert_eq!(rt; nfit.faults(), faults, "{line} {read}");
+    }
+    Ok(())
+}
+
+/// How many bytes the source has, and what is said of them.
+#[test]
+fn limit_of_the_source(rt: HostRuntime) -> Result<(), Fail> {
+    let alloc = rt.alloc();
+    let rows = [
+        (1_048_576, 3, "error nfit signature\n"),
+        (1_048_577, 5, "error limit nfit\n"),
+        (1_100_000, 5, "error limit nfit\n"),
+    ];
+    for (size, status, text) in rows {
+        let mut rig = MemoryRig::new(alloc, 64)?;
+        let mut nfit = MemorySource::new(vec![in alloc; 0; size]?, Vec::new(alloc));
+        let words = words(alloc, "do . init-labels dimm=1")?;
+        assert_eq!(rt;
+            nd_top(alloc, &words, &mut rig, &mut nfit),
+            status,
+            "{size}"
+        );
+        assert_eq!(rt; rig.said(), text.as_bytes());
+    }
     Ok(())
 }
