@@ -8,7 +8,7 @@ use Rattle.nd_cli.specs.declared.endings.Ending.TheVariants.{Replied, Silent, No
 use Rattle.nd_cli.specs.declared.endings.Reply.TheVariants.{Accepted, Refused}
 use Rattle.nd_cli.specs.declared.words.Form.{Form}
 use Rattle.nd_cli.specs.Answers.{Answer, IsAnswered, SaysFront, SaysFrontOf, is_early}
-use Rattle.nd_cli.specs.Endings.{HasEndingCause, IsEarlyEnding, Tells, status_of, text_of}
+use Rattle.nd_cli.specs.Endings.{HasEndingCause, IsEarlyEnding, IsNfitEnding, Tells, status_of, text_of}
 
 module _ (answer : Answer) (old mid : Areas) (said_before said_now : List ℕ) (form : Option Form) (before now failed_dimm source_before source_now : ℕ) where
   abbrev Caused : Ending → Type 0
@@ -66,6 +66,19 @@ module _ (answer : Answer) (old mid : Areas) (said_before said_now : List ℕ) (
   front (AreaFailed line) tells cause said = inr (inl (subst (λ (t : List ℕ). SaysFrontOf t said_before said_now) cause.1.1 said))
   front SourceFailed tells cause said = inr (inr (inl said))
   front NoMemory tells cause said = inr (inr (inr said))
+
+-- where the status is that of the source, it failed, or the NFIT is not accepted
+pub source_failed : (form : Option Form) (before now failed_dimm source_before source_now : ℕ) (Told No : Type 0) (ending : Ending)
+    → HasEndingCause form before now failed_dimm source_before source_now ending → (Told → IsNfitEnding ending → No) → status_of ending ≡ 5 → HasRisen source_before source_now ⊎ (Told → No)
+source_failed form before now failed_dimm source_before source_now Told No (Replied (Accepted text)) cause nfit is = absurd (omega (arith, is))
+source_failed form before now failed_dimm source_before source_now Told No (Replied (Refused text)) cause nfit is = absurd (omega (arith, is))
+source_failed form before now failed_dimm source_before source_now Told No Silent cause nfit is = absurd (omega (arith, is))
+source_failed form before now failed_dimm source_before source_now Told No NoForm cause nfit is = absurd (omega (arith, is))
+source_failed form before now failed_dimm source_before source_now Told No (NfitRefused line) cause nfit is = absurd (omega (arith, is))
+source_failed form before now failed_dimm source_before source_now Told No TooLong cause nfit is = inr (λ told. nfit told tt)
+source_failed form before now failed_dimm source_before source_now Told No (AreaFailed line) cause nfit is = absurd (omega (arith, is))
+source_failed form before now failed_dimm source_before source_now Told No SourceFailed cause nfit is = inl cause.1
+source_failed form before now failed_dimm source_before source_now Told No NoMemory cause nfit is = absurd (omega (arith, is))
 
 -- the endings with the statuses at which nothing was written
 pub IsEarlyEnding-status : (ending : Ending) → IsTrue (is_early (status_of ending)) → IsEarlyEnding ending

@@ -52,6 +52,9 @@ pub fn nd_top<R: Rig, N: Source>(alloc: Global, words: &[String], rig: &mut R, n
     ensures no_form { form_of words.now ≡ None → (result ≡ 2) ⊎ (result ≡ 7) }
     ensures nfit { (result ≡ 3) ⊎ (result ≡ 5) → form_of words.now ≡ Some Do }
     ensures unread { ¬ (form_of words.now ≡ Some Do) → (N.left nfit.new ≡ N.left nfit.old) × (N.faults nfit.new ≡ N.faults nfit.old) }
+    ensures nfit_refused { result ≡ 3 → IsTrue (N.tells nfit.old) → ¬ IsAccepted (N.left nfit.old) }
+    ensures source_failed { result ≡ 5 → HasRisen (N.faults nfit.old) (N.faults nfit.new) ⊎ (IsTrue (N.tells nfit.old) → ¬ IsAccepted (N.left nfit.old)) }
+    ensures nfit_first { form_of words.now ≡ Some Do → IsTrue (N.tells nfit.old) → ¬ IsAccepted (N.left nfit.old) → (R.reads rig.new ≡ R.reads rig.old) × (R.faults rig.new ≡ R.faults rig.old) }
     ensures area_failed { result ≡ 4 → HasRisen (R.faults rig.old) (R.faults rig.new) }
     ensures say_failed { result ≡ 7 → HasRisen (R.say_faults rig.old) (R.say_faults rig.new) }
     ensures complete { IsSome (form_of words.now) → (form_of words.now ≡ Some Do → IsTrue (N.tells nfit.old) × IsAccepted (N.left nfit.old)) → ¬ HasRisen (R.faults rig.old) (R.faults rig.new) → ¬ HasRisen (R.say_faults rig.old) (R.say_faults rig.new) → ¬ HasRisen (N.faults nfit.old) (N.faults nfit.new) → (result ≤ 1) ⊎ (result ≡ 6) }
@@ -80,6 +83,7 @@ fn run<R: Rig, N: Source>(alloc: Global, words: &[String], rig: &mut R, nfit: &m
     ensures areas { IsTrue (R.tells rig.old) → WritesOnly (named words.now) (R.areas rig.old) (R.areas rig.new) }
     ensures any_moment { IsTrue (R.tells rig.old) → LeavesOnly R.moment R.left_since rig.old rig.new (LeftUnsaid (named words.now) (R.areas rig.old) (R.said rig.old)) }
     ensures nfit { IsTrue (N.tells nfit.old) → IsNfitEnding result → ¬ IsAccepted (N.left nfit.old) }
+    ensures nfit_first { form_of words.now ≡ Some Do → IsTrue (N.tells nfit.old) → ¬ IsAccepted (N.left nfit.old) → (R.reads rig.new ≡ R.reads rig.old) × (R.faults rig.new ≡ R.faults rig.old) }
     ensures acknowledges { IsTrue (R.tells rig.old) → Acknowledges (named words.now) (R.areas rig.old) (R.areas rig.new) result }
     ensures early_time { IsEarlyEnding result → Elapses (R.moment rig.old) (R.moment rig.new) (R.left_since rig.old) (R.left_since rig.new) (R.may_leave rig.new) (R.may_leave rig.old) }
     ensures early_areas { IsEarlyEnding result → R.areas rig.new ≡ R.areas rig.old }
@@ -128,6 +132,7 @@ fn do_line<R: Rig, N: Source>(alloc: Global, words: &[String], rig: &mut R, nfit
     ensures areas { IsTrue (R.tells rig.old) → WritesOnly (named_in (command_in (line_of words.now))) (R.areas rig.old) (R.areas rig.new) }
     ensures any_moment { IsTrue (R.tells rig.old) → LeavesOnly R.moment R.left_since rig.old rig.new (LeftUnsaid (named_in (command_in (line_of words.now))) (R.areas rig.old) (R.said rig.old)) }
     ensures nfit { IsTrue (N.tells nfit.old) → IsNfitEnding result → ¬ IsAccepted (N.left nfit.old) }
+    ensures nfit_first { IsTrue (N.tells nfit.old) → ¬ IsAccepted (N.left nfit.old) → (R.reads rig.new ≡ R.reads rig.old) × (R.faults rig.new ≡ R.faults rig.old) }
     ensures acknowledges { IsTrue (R.tells rig.old) → Acknowledges (named_in (command_in (line_of words.now))) (R.areas rig.old) (R.areas rig.new) result }
     ensures early_time { IsEarlyEnding result → Elapses (R.moment rig.old) (R.moment rig.new) (R.left_since rig.old) (R.left_since rig.new) (R.may_leave rig.new) (R.may_leave rig.old) }
     ensures early_areas { IsEarlyEnding result → R.areas rig.new ≡ R.areas rig.old }

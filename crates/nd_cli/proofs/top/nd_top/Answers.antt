@@ -3,11 +3,11 @@ use Rattle.std.proofs.lemmas.Bool.{eqb-true}
 use Rattle.std.proofs.lemmas.List.{append-nil, nil_from_length}
 use Rattle.rig_trait.specs.Rig.{Areas, Elapses, HasRisen, IsSaying}
 use Rattle.rig_trait.proofs.Moments.{weakened}
-use Rattle.nd_cli.specs.Answers.{SaysFront, SaysFrontOf, answer_of, is_early}
+use Rattle.nd_cli.specs.Answers.{IsAccepted, SaysFront, SaysFrontOf, answer_of, is_early}
 use Rattle.nd_cli.specs.Endings.{status_of, text_of}
 use Rattle.nd_cli.specs.Stops.{IsLeft, LeftUnsaid, named}
 use Rattle.nd_cli.specs.Words.{form_of}
-use Rattle.nd_cli.proofs.Ends.{IsEarlyEnding-status, LeavesOnly-early, answered, exact, front, whole}
+use Rattle.nd_cli.proofs.Ends.{IsEarlyEnding-status, LeavesOnly-early, answered, exact, front, source_failed, whole}
 use Rattle.nd_cli.proofs.Left.{IsLeft-unsaid, LeavesOnly-saying}
 use Rattle.nd_cli.proofs.top.nd_top.Goals as goal
 
@@ -175,3 +175,14 @@ returns-clause-whole g c told nfit_told kept =
     let is = whole answer (rig.areas old) (rig.areas mid) (rig.said old) (rig.said new) (form_of c.args.words.now) (rig.faults old) (rig.faults mid) (rig.failed_dimm mid) (faults c.args.nfit.now) (faults c.run-ending.new.nfit)
     ending (c.run-ending.ensures.ending told nfit_told) c.run-ending.ensures.cause c.run-ending.ensures.early_areas mid_kept in
     subst (λ (now : Areas). (now ≡ rig.areas old) ⊎ (now ≡ answer.areas)) (sym c.say.ensures.areas) is
+
+pub returns-in-Ok-clause-source_failed : goal.returns-in-Ok-clause-source_failed
+returns-in-Ok-clause-source_failed g c is_5 =
+    let rig = g.R.Rig in
+    let old = c.args.rig.now in
+    let mid = c.run-ending.new.rig in
+    let source = g.N.Source in
+    let before = c.args.nfit.now in
+    source_failed (form_of c.args.words.now) (rig.faults old) (rig.faults mid) (rig.failed_dimm mid) (source.faults before) (source.faults c.run-ending.new.nfit)
+    (IsTrue (source.tells before)) (¬ IsAccepted (source.left before)) c.run-ending.result c.run-ending.ensures.cause c.run-ending.ensures.nfit
+    (sym (c.code-status.ensures.code ∙ c.status.ensures) ∙ is_5)
