@@ -1,3 +1,4 @@
 pub mod StoredAreas
 pub mod WrittenAreas
 pub mod Moments
+pub mod Frames

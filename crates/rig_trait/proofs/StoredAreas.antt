@@ -11,7 +11,7 @@ use Rattle.std.specs.BTreeMap.{BTreeMap}
 use Rattle.std.specs.Map.{lookup}
 use Rattle.std.specs.FinMap.{get, insert, find, get-from_entries, get-insert, same_map, nat_cmp-IsAntisymmetric}
 use Rattle.rig_trait.specs.Memory.{bytes_of, areas_of}
-use Rattle.rig_trait.specs.Rig.{area}
+use Rattle.rig_trait.specs.Areas.{area}
 
 items_of : Vec ℕ Global → List ℕ
 items_of v = v.items

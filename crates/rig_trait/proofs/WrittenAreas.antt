@@ -9,7 +9,8 @@ use Rattle.std.specs.FinMap.{get, gets, same_map, nat_cmp-IsAntisymmetric}
 use Rattle.byte_ranges.specs.Ranges.{range, patched}
 use Rattle.byte_ranges.proofs.Patched.{length-patched}
 use Rattle.rig_trait.specs.declared.rig.Failed.{Failed}
-use Rattle.rig_trait.specs.Rig.{Areas, area, written, IsWithin, OthersKept, Writes}
+use Rattle.rig_trait.specs.Areas.{Areas, area, written, IsWithin, OthersKept, SizesKept, size_in}
+use Rattle.rig_trait.specs.Records.{Writes}
 
 get-area : (areas : Areas) (dimm : ℕ) → IsSome (get areas dimm) → get areas dimm ≡ Some (area areas dimm)
 get-area areas dimm is_area = elim (get areas dimm) as (λ o. IsSome o → o ≡ Some (unwrap_or o [])) [ None ↦ λ no. cc | Some bytes ↦ λ _. refl ] is_area
@@ -31,8 +32,8 @@ module _ (areas : Areas) (dimm at : ℕ) where
     get-written_other q other = grind (gets, rules, arith)
 
     -- no area is made or taken away, and no size changes
-    pub size-written : IsWithin areas dimm at (length put) → (q : ℕ) → option_map length (get (written areas dimm at put) q) ≡ option_map length (get areas q)
-    size-written within q = elim (cases_eq q dimm) [
+    pub SizesKept-written : IsWithin areas dimm at (length put) → SizesKept areas (written areas dimm at put)
+    SizesKept-written within q = elim (cases_eq q dimm) [
       | inl same ↦ rw (same, get-written, get-area areas dimm within.is_area, length-patched (area areas dimm) put at within.fits)
       | inr other ↦ ap (option_map length) (get-written_other q other)
     ]

@@ -1,15 +1,12 @@
 -- How often the calls of a rig failed, and how often it was read.
-use Rattle.std.specs.Prelude.{ℕ, ◌+◌, ◌-◌, ◌^◌, min, refl}
+use Rattle.std.specs.Prelude.{ℕ, refl}
 use Rattle.std.specs.Coded.{Coded, coded_ℕ, coded×, code_by}
+use Rattle.rig_trait.specs.Faults.{one_more}
 use Rattle.rig_trait.specs.declared.counts.Counts.{Counts}
 
 -- nothing has failed, and nothing was read
 abbrev pub no_counts : Counts
 no_counts = record { faults = 0; say_faults = 0; failed_dimm = 0; reads = 0 }
-
--- a count after one more, which stays at its last value
-abbrev pub one_more : ℕ → ℕ
-one_more count = min (count + 1) (2 ^ 64 - 1)
 
 -- the counts after a call of `size` or `read` has begun
 abbrev pub read_counted : Counts → Counts

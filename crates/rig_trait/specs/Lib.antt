@@ -1,6 +1,10 @@
-pub mod Rig
+pub mod Areas
+pub mod Records
+pub mod Faults
+pub mod Frames
 pub mod Counts
 pub mod Memory
 pub mod MemorySource
 pub mod Files
 pub mod TwoWrites
+pub mod Sources

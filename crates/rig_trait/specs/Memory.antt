@@ -4,7 +4,7 @@ use Rattle.std.specs.declared.alloc.Global.{Global}
 use Rattle.std.specs.BTreeMap.{BTreeMap}
 use Rattle.std.specs.Coded.{Coded, coded_ℕ, coded_list, coded×, code_by}
 use Rattle.std.specs.FinMap.{empty, code, from_entries}
-use Rattle.rig_trait.specs.Rig.{Areas}
+use Rattle.rig_trait.specs.Areas.{Areas}
 use Rattle.rig_trait.specs.Counts.{no_counts, counts_code}
 use Rattle.rig_trait.specs.declared.counts.Counts.{Counts}
 

@@ -1,6 +1,10 @@
 -- What a stop leaves at any moment of two writes into one area, one after the other.
-use Rattle.std.specs.Prelude.{◌≡◌, ℕ, List}
-use Rattle.rig_trait.specs.Rig.{Areas, CrashRecord, written, IsTorn, IsWhole}
+use Rattle.std.specs.Prelude.{◌≡◌, ℕ, List, Result, OnOk}
+use Rattle.rig_trait.specs.declared.rig.Failed.{Failed}
+use Rattle.rig_trait.specs.declared.shown.Shown.{Ghosts}
+use Rattle.rig_trait.specs.Areas.{Areas, written}
+use Rattle.rig_trait.specs.Frames.{IsTold, LeavesOnly}
+use Rattle.rig_trait.specs.Records.{CrashRecord, IsTorn, IsWhole}
 
 -- the areas after both
 abbrev pub with_both : Areas → ℕ → ℕ → List ℕ → ℕ → List ℕ → Areas
@@ -12,3 +16,13 @@ pub data LeftByTwo (areas : Areas) (said : List ℕ) (dimm first_at : ℕ) (firs
   first_whole : IsWhole (written areas dimm first_at first) said c → LeftByTwo areas said dimm first_at first second_at second c
   second_torn : IsTorn (written areas dimm first_at first) said dimm second_at second c → LeftByTwo areas said dimm first_at first second_at second c
   both : IsWhole (with_both areas dimm first_at first second_at second) said c → LeftByTwo areas said dimm first_at first second_at second c
+
+-- at Ok both stand
+abbrev pub WritesBoth : {R T : Type 0} → Ghosts R → R → R → ℕ → ℕ → List ℕ → ℕ → List ℕ → Result T Failed → Type 0
+WritesBoth m old new dimm first_at first second_at second result =
+    IsTold m old → OnOk result (m.areas new ≡ with_both (m.areas old) dimm first_at first second_at second)
+
+-- what a stop leaves at any moment of them
+abbrev pub LeavesTwo : {R : Type 0} → Ghosts R → R → R → ℕ → ℕ → List ℕ → ℕ → List ℕ → Type 0
+LeavesTwo m old new dimm first_at first second_at second =
+    IsTold m old → LeavesOnly m old new (LeftByTwo (m.areas old) (m.said old) dimm first_at first second_at second)

@@ -6,7 +6,7 @@ ghost use Rattle.rig_trait.specs.Counts.{no_counts};
 ghost use Rattle.rig_trait.specs.Files.{area_file, handle_digits, HasRoom};
 
 use crate::counts::Counts;
-use crate::{Failed, Rig};
+use crate::{Failed, Rig, Shown};
 use std::alloc::{AllocError, Global};
 use std::fs::{File, OpenOptions};
 use std::io::{ErrorKind, Write};
@@ -170,7 +170,7 @@ fn push(path: &mut String, character: char)
     }
 }
 
-impl Rig for FileRig {
+impl Shown for FileRig {
     ghost tells = { λ _. false };
 
     ghost tells_records = { λ _. false };
@@ -193,7 +193,7 @@ impl Rig for FileRig {
 
     ghost reads = { λ rig. rig.reads };
 
-    ghost use Rattle.std.proofs.Common.{rules};
+    ghost use Rattle.std.proofs.Common.{sym, true≢false};
 
     ghost counts_now = { λ _ _ _ _ left. left };
 
@@ -203,8 +203,10 @@ impl Rig for FileRig {
 
     ghost now_is = { λ _ _ left. absurd left };
 
-    ghost has_record = { Prim.search rules };
+    ghost has_record = { λ _ told. absurd (true≢false (sym told)) };
+}
 
+impl Rig for FileRig {
     fn size(&mut self, dimm: u32) -> Result<Option<u64>, Failed> {
         self.counts.count_read();
         match self.try_size(dimm) {

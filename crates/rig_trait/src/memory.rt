@@ -1,15 +1,19 @@
 //! A rig in memory.
 
-ghost use Rattle.std.specs.Prelude.{◌≡◌, ◌≤◌, ◌<◌, ◌+◌, ◌-◌, ◌^◌, ℕ, ◌++◌, ◌↔◌, ◌⊎◌, min, length, take, true, false, None, IsTrue, IsErr, IfOk, OnOk, OnErr, Contains};
-ghost use Rattle.std.specs.Option.{option_copied, option_map};
+ghost use Rattle.std.specs.Prelude.{◌≡◌, ◌≤◌, ◌<◌, ◌+◌, ◌++◌, ◌↔◌, ◌⊎◌, length, true, false, IsTrue, IsErr, IfOk, OnOk, OnErr, Contains};
 ghost use Rattle.std.specs.FinMap.{get, insert};
-ghost use Rattle.byte_ranges.specs.Ranges.{range, patched};
-ghost use Rattle.rig_trait.specs.Rig.{CrashRecord, area, written, IsWithin, Writes, LeftByWrite, IsSaying, Elapses, HasCause, HasRisen};
-ghost use Rattle.rig_trait.specs.Counts.{one_more, read_counted, fault_counted, say_fault_counted};
+ghost use Rattle.std.specs.Option.{option_copied};
+ghost use Rattle.std.specs.Result.{is_err};
+ghost use Rattle.byte_ranges.specs.Ranges.{patched};
+ghost use Rattle.rig_trait.specs.Areas.{IsWithin, size_in, written};
+ghost use Rattle.rig_trait.specs.Counts.{read_counted, fault_counted, say_fault_counted};
+ghost use Rattle.rig_trait.specs.Faults.{HasRisen, one_more};
+ghost use Rattle.rig_trait.specs.Frames.{IsTold, Reads, WritesTo, SaysOnly, FailsAt, GivesBytes, WritesBytes, WriteLeaves, SayLeaves};
+ghost use Rattle.rig_trait.specs.Records.{Says};
 ghost use Rattle.rig_trait.specs.Memory.{new_memory, areas_of};
 
 use crate::counts::Counts;
-use crate::{Failed, Rig};
+use crate::{Failed, Rig, Shown};
 use std::alloc::{AllocError, Global};
 use std::collections::BTreeMap;
 use std::marker::Model;
@@ -119,7 +123,7 @@ fn put(area: &mut [u8], at: usize, bytes: &[u8])
     area[at..at + bytes.len()].copy_from_slice(bytes);
 }
 
-impl Rig for MemoryRig {
+impl Shown for MemoryRig {
     ghost tells = { λ _. true };
 
     ghost tells_records = { λ _. false };
@@ -142,7 +146,7 @@ impl Rig for MemoryRig {
 
     ghost reads = { λ rig. rig.counts.reads };
 
-    ghost use Rattle.std.proofs.Common.{rules};
+    ghost use Rattle.std.proofs.Common.{sym, true≢false};
 
     ghost counts_now = { λ _ _ _ _ left. left };
 
@@ -152,26 +156,20 @@ impl Rig for MemoryRig {
 
     ghost now_is = { λ _ _ left. absurd left };
 
-    ghost has_record = { Prim.search rules };
+    ghost has_record = { λ _ told. absurd (true≢false (sym told)) };
+}
 
+impl Rig for MemoryRig {
     fn size(&mut self, dimm: u32) -> Result<Option<u64>, Failed>
         // It fails at the listed calls alone, and changes its counts alone.
         ensures listed { IsErr result ↔ Contains self.old.listed self.old.calls }
         ensures ok { OnOk result (self.new ≡ record self.old { calls = one_more self.old.calls; counts = read_counted self.old.counts }) }
         ensures err { OnErr result (self.new ≡ record self.old { calls = one_more self.old.calls; counts = fault_counted dimm (read_counted self.old.counts) }) }
 
-        ensures size { IsTrue true → IfOk result (λ size. size ≡ option_map length (get self.old.areas dimm)) }
-        ensures areas { self.new.areas ≡ self.old.areas }
-        ensures said { self.new.said ≡ self.old.said }
-        ensures tells { true ≡ true }
-        ensures tells_records { IsTrue false → IsTrue false }
-        ensures time { Elapses 0 0 (λ _ _. ⊥) (λ _ _. ⊥) (λ _. ⊥) (λ _. ⊥) }
-        ensures cause { HasCause self.old.counts.faults self.new.counts.faults result }
-        ensures say_faults { self.new.counts.say_faults ≡ self.old.counts.say_faults }
-        ensures failed_dimm { OnErr result (self.new.counts.failed_dimm ≡ dimm) }
-        ensures failed_dimm_kept { OnOk result (self.new.counts.failed_dimm ≡ self.old.counts.failed_dimm) }
+        ensures size { IsTold ⟦<MemoryRig as Shown>⟧ self.old → IfOk result (λ size. size ≡ size_in self.old.areas dimm) }
+        ensures reads_only { Reads ⟦<MemoryRig as Shown>⟧ self.old self.new }
+        ensures cause { FailsAt dimm ⟦<MemoryRig as Shown>⟧ self.old self.new (is_err result) }
         ensures reads { HasRisen self.old.counts.reads self.new.counts.reads }
-        ensures reads_later { self.old.counts.reads ≤ self.new.counts.reads }
     {
         self.counts.count_read();
         if self.is_listed() {
@@ -182,23 +180,15 @@ impl Rig for MemoryRig {
     }
 
     fn read(&mut self, dimm: u32, at: u64, into: &mut [u8]) -> Result<(), Failed>
-        requires { IsTrue true → IsWithin self.old.areas dimm at (length into.old) }
+        requires { IsTold ⟦<MemoryRig as Shown>⟧ self.old → IsWithin self.old.areas dimm at (length into.old) }
         ensures listed { IsErr result ↔ Contains self.old.listed self.old.calls }
         ensures ok { OnOk result (self.new ≡ record self.old { calls = one_more self.old.calls; counts = read_counted self.old.counts }) }
         ensures err { OnErr result (self.new ≡ record self.old { calls = one_more self.old.calls; counts = fault_counted dimm (read_counted self.old.counts) }) }
 
-        ensures bytes { IsTrue true → OnOk result (into.new ≡ range (area self.old.areas dimm) at (length into.old)) }
-        ensures areas { self.new.areas ≡ self.old.areas }
-        ensures said { self.new.said ≡ self.old.said }
-        ensures tells { true ≡ true }
-        ensures tells_records { IsTrue false → IsTrue false }
-        ensures time { Elapses 0 0 (λ _ _. ⊥) (λ _ _. ⊥) (λ _. ⊥) (λ _. ⊥) }
-        ensures cause { HasCause self.old.counts.faults self.new.counts.faults result }
-        ensures say_faults { self.new.counts.say_faults ≡ self.old.counts.say_faults }
-        ensures failed_dimm { OnErr result (self.new.counts.failed_dimm ≡ dimm) }
-        ensures failed_dimm_kept { OnOk result (self.new.counts.failed_dimm ≡ self.old.counts.failed_dimm) }
+        ensures bytes { GivesBytes ⟦<MemoryRig as Shown>⟧ self.old dimm at (length into.old) into.new result }
+        ensures reads_only { Reads ⟦<MemoryRig as Shown>⟧ self.old self.new }
+        ensures cause { FailsAt dimm ⟦<MemoryRig as Shown>⟧ self.old self.new (is_err result) }
         ensures reads { HasRisen self.old.counts.reads self.new.counts.reads }
-        ensures reads_later { self.old.counts.reads ≤ self.new.counts.reads }
     {
         self.counts.count_read();
         if self.is_listed() {
@@ -213,21 +203,15 @@ impl Rig for MemoryRig {
     }
 
     fn write(&mut self, dimm: u32, at: u64, bytes: &[u8]) -> Result<(), Failed>
-        requires { IsTrue true → IsWithin self.old.areas dimm at (length bytes.now) }
+        requires { IsTold ⟦<MemoryRig as Shown>⟧ self.old → IsWithin self.old.areas dimm at (length bytes.now) }
         ensures listed { IsErr result ↔ Contains self.old.listed self.old.calls }
         ensures ok { OnOk result (self.new ≡ record self.old { areas = written self.old.areas dimm at bytes.now; calls = one_more self.old.calls }) }
         ensures err { OnErr result (self.new ≡ record self.old { calls = one_more self.old.calls; counts = fault_counted dimm self.old.counts }) }
 
-        ensures written { IsTrue true → Writes self.old.areas self.new.areas dimm at bytes.now result }
-        ensures said { self.new.said ≡ self.old.said }
-        ensures tells { true ≡ true }
-        ensures tells_records { IsTrue false → IsTrue false }
-        ensures time { Elapses 0 0 (λ _ _. ⊥) (λ _ _. ⊥) (λ _. ⊥) (LeftByWrite self.old.areas self.new.areas self.old.said dimm at bytes.now result) }
-        ensures whole { OnOk result ((c : CrashRecord) → ⊥ → c.torn ≡ None) }
-        ensures cause { HasCause self.old.counts.faults self.new.counts.faults result }
-        ensures say_faults { self.new.counts.say_faults ≡ self.old.counts.say_faults }
-        ensures failed_dimm { OnErr result (self.new.counts.failed_dimm ≡ dimm) }
-        ensures failed_dimm_kept { OnOk result (self.new.counts.failed_dimm ≡ self.old.counts.failed_dimm) }
+        ensures written { WritesBytes ⟦<MemoryRig as Shown>⟧ self.old self.new dimm at bytes.now result }
+        ensures writes_only { WritesTo dimm ⟦<MemoryRig as Shown>⟧ self.old self.new }
+        ensures stops { WriteLeaves ⟦<MemoryRig as Shown>⟧ self.old self.new dimm at bytes.now result }
+        ensures cause { FailsAt dimm ⟦<MemoryRig as Shown>⟧ self.old self.new (is_err result) }
         ensures reads { self.new.counts.reads ≡ self.old.counts.reads }
     {
         if self.is_listed() {
@@ -245,16 +229,9 @@ impl Rig for MemoryRig {
         ensures ok { OnOk result (self.new ≡ record self.old { said = self.old.said ++ bytes.now; calls = one_more self.old.calls }) }
         ensures err { OnErr result (self.new ≡ record self.old { calls = one_more self.old.calls; counts = say_fault_counted self.old.counts }) }
 
-        ensures all { IsTrue true → OnOk result (self.new.said ≡ self.old.said ++ bytes.now) }
-        ensures front { IsTrue true → (n : ℕ) × (self.new.said ≡ self.old.said ++ take n bytes.now) }
-        ensures areas { self.new.areas ≡ self.old.areas }
-        ensures tells { true ≡ true }
-        ensures tells_records { IsTrue false → IsTrue false }
-        ensures time { Elapses 0 0 (λ _ _. ⊥) (λ _ _. ⊥) (λ _. ⊥) (IsSaying (λ _. ⊥) self.old.said bytes.now) }
-        ensures cause { HasCause self.old.counts.say_faults self.new.counts.say_faults result }
-        ensures faults { self.new.counts.faults ≡ self.old.counts.faults }
-        ensures failed_dimm { self.new.counts.failed_dimm ≡ self.old.counts.failed_dimm }
-        ensures reads { self.new.counts.reads ≡ self.old.counts.reads }
+        ensures said { IsTold ⟦<MemoryRig as Shown>⟧ self.old → Says self.old.said self.new.said bytes.now result }
+        ensures says_only { SaysOnly ⟦<MemoryRig as Shown>⟧ self.old self.new (is_err result) }
+        ensures stops { SayLeaves ⟦<MemoryRig as Shown>⟧ self.old self.new bytes.now }
     {
         let free = self.room as usize - self.said.len();
         if self.is_listed() || free < bytes.len() {

@@ -1,8 +1,8 @@
 //! A source in memory.
 
 ghost use Rattle.std.specs.Prelude.{◌≡◌, ◌≤◌, ◌<◌, [], ◌↔◌, min, length, take, drop, true, IsTrue, IsErr, IfOk, OnErr, Contains};
-ghost use Rattle.rig_trait.specs.Rig.{HasCause};
-ghost use Rattle.rig_trait.specs.Counts.{one_more};
+ghost use Rattle.std.specs.Result.{is_err};
+ghost use Rattle.rig_trait.specs.Faults.{counted, one_more};
 ghost use Rattle.rig_trait.specs.MemorySource.{new_input};
 
 use crate::{Failed, Source};
@@ -89,7 +89,7 @@ impl Source for MemorySource {
         ensures kept { IsTrue true → OnErr result (self.new.left ≡ self.old.left) }
         ensures fits { IfOk result (λ n. n ≤ length into.old) }
         ensures tells { true ≡ true }
-        ensures cause { HasCause self.old.faults self.new.faults result }
+        ensures cause { self.new.faults ≡ counted (is_err result) self.old.faults }
     {
         if self.is_listed() {
             self.faults = self.faults.saturating_add(1);

@@ -1,7 +1,8 @@
 //! What bytes are read from, as a trait, and what each of its calls promises.
 
 ghost use Rattle.std.specs.Prelude.{◌≡◌, ◌≤◌, ◌<◌, ℕ, Bool, List, [], ◌↔◌, length, take, drop, IsTrue, IfOk, OnErr};
-ghost use Rattle.rig_trait.specs.Rig.{HasCause};
+ghost use Rattle.std.specs.Result.{is_err};
+ghost use Rattle.rig_trait.specs.Faults.{counted};
 
 use crate::Failed;
 
@@ -28,7 +29,7 @@ pub trait Source {
         ensures kept { IsTrue (tells self.old) → OnErr result (left self.new ≡ left self.old) }
         ensures fits { IfOk result (λ n. n ≤ length into.old) }
         ensures tells { tells self.new ≡ tells self.old }
-        ensures cause { HasCause (faults self.old) (faults self.new) result };
+        ensures cause { faults self.new ≡ counted (is_err result) (faults self.old) };
 
     /// How often `read` failed. A count that has reached its last value stays there.
     fn faults(&self) -> u64

@@ -7,7 +7,7 @@ use Rattle.std.specs.Vec.{with_items}
 use Rattle.byte_ranges.specs.Ranges.{patched}
 use Rattle.byte_ranges.proofs.Patched.{length-patched}
 use Rattle.rig_trait.specs.Memory.{areas_of}
-use Rattle.rig_trait.specs.Rig.{area}
+use Rattle.rig_trait.specs.Areas.{area}
 use Rattle.rig_trait.proofs.StoredAreas.{area-areas_of, absent, areas_of-inserted}
 use Rattle.rig_trait.proofs.memory.put_into.Goals as goal
 
