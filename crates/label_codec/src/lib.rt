@@ -1,9 +1,11 @@
 //! The labels of namespaces as bytes, and how their names are printed (UEFI 2.7, section 13.19).
 #![tactic(auto)]
 
+mod flags;
 mod label;
 mod names;
 
+pub use flags::{LOCAL, READ_ONLY, UPDATING};
 pub use label::{Label, read_label};
 pub use names::name_text;
 
