@@ -1,7 +1,3 @@
 pub mod Pieces
-pub mod SlotsSoFar
-pub mod Refused
-pub mod Unsaid
-pub mod Acknowledged
-pub mod Left
-pub mod Ends
+pub mod Hexadecimal
+pub mod Appended

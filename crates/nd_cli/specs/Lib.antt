@@ -1,8 +1,9 @@
 pub mod Words
 pub mod Lines
+pub mod Digits
 pub mod Texts
+pub mod Statuses
 pub mod Answers
-pub mod Faults
-pub mod Endings
 pub mod Stops
 pub mod Tables
+pub mod Outcomes

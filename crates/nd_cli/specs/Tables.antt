@@ -1,32 +1,50 @@
 -- The NFIT of a platform, as a source gives it.
-use Rattle.std.specs.Prelude.{◌≡◌, ◌<◌, ◌≤◌, ℕ, List, Result, Ok, Err, Vec, length}
+use Rattle.std.specs.Prelude.{◌≡◌, ◌<◌, ◌≤◌, Bool, true, false, List, ℕ, Result, Ok, Err, Vec, length}
 use Rattle.std.specs.declared.alloc.Global.{Global}
-use Rattle.rig_trait.specs.Rig.{HasRisen}
-use Rattle.nfit_tables.specs.declared.pieces.Nfit.{Nfit}
+use Rattle.nfit_tables.specs.declared.pieces.Nfit as tables
 use Rattle.nfit_tables.specs.Reading.{table_of}
-use Rattle.nd_cli.specs.declared.tables.TableFault.{TableFault}
-use Rattle.nd_cli.specs.declared.tables.TableFault.TheVariants.{Failed, TooLong, Fault, Memory}
+use Rattle.nd_cli.specs.declared.faults.Fault.{Fault}
+use Rattle.nd_cli.specs.declared.faults.Fault.TheVariants.{Words, Nfit, Area, Source, Limit, Memory}
 use Rattle.nd_cli.specs.Answers.{nfit_limit}
 
--- The source failed only where its count of faults rose. Nothing tells why memory was refused.
-abbrev pub HasTableCause : ℕ → ℕ → TableFault → Type 0
-HasTableCause before now Failed = HasRisen before now
-HasTableCause before now TooLong = Unit {0}
-HasTableCause before now (Fault fault) = Unit {0}
-HasTableCause before now Memory = Unit {0}
+-- the source failed
+abbrev pub is_of_source : Fault → Bool
+is_of_source Words = false
+is_of_source (Nfit fault) = false
+is_of_source (Area dimm) = false
+is_of_source Source = true
+is_of_source Limit = false
+is_of_source Memory = false
 
--- all bytes of the source, or there are more than an NFIT may have
-abbrev pub ReadsAll : List ℕ → Result (Vec ℕ Global) TableFault → Type 0
+abbrev pub is_source_failed : {T : Type 0} → Result T Fault → Bool
+is_source_failed (Ok value) = false
+is_source_failed (Err fault) = is_of_source fault
+
+-- all bytes of the source, or there are more than an NFIT may have; nothing tells what failed
+abbrev pub ReadsAll : List ℕ → Result (Vec ℕ Global) Fault → Type 0
 ReadsAll left (Ok bytes) = (bytes.items ≡ left) × (length left ≤ nfit_limit)
-ReadsAll left (Err TooLong) = nfit_limit < length left
-ReadsAll left (Err Failed) = Unit {0}
+ReadsAll left (Err Limit) = nfit_limit < length left
+ReadsAll left (Err Source) = Unit {0}
 ReadsAll left (Err Memory) = Unit {0}
-ReadsAll left (Err (Fault fault)) = ⊥
+ReadsAll left (Err (Nfit fault)) = ⊥
+ReadsAll left (Err Words) = ⊥
+ReadsAll left (Err (Area dimm)) = ⊥
 
 -- the NFIT that these bytes are, or why they are none
-abbrev pub ReadsTable : List ℕ → Result Nfit TableFault → Type 0
+abbrev pub ReadsTable : List ℕ → Result tables.Nfit Fault → Type 0
 ReadsTable left (Ok table) = (length left ≤ nfit_limit) × (table_of left ≡ Ok table)
-ReadsTable left (Err (Fault fault)) = (length left ≤ nfit_limit) × (table_of left ≡ Err fault)
-ReadsTable left (Err TooLong) = nfit_limit < length left
-ReadsTable left (Err Failed) = Unit {0}
+ReadsTable left (Err (Nfit fault)) = (length left ≤ nfit_limit) × (table_of left ≡ Err fault)
+ReadsTable left (Err Limit) = nfit_limit < length left
+ReadsTable left (Err Source) = Unit {0}
 ReadsTable left (Err Memory) = Unit {0}
+ReadsTable left (Err Words) = ⊥
+ReadsTable left (Err (Area dimm)) = ⊥
+
+-- the faults that reading it can have
+abbrev pub IsTableFault : Fault → Type 0
+IsTableFault Words = ⊥
+IsTableFault (Nfit fault) = Unit {0}
+IsTableFault (Area dimm) = ⊥
+IsTableFault Source = Unit {0}
+IsTableFault Limit = Unit {0}
+IsTableFault Memory = Unit {0}

@@ -9,16 +9,22 @@ use Rattle.index_block.specs.declared.geometry.Place.TheVariants.{First, Second}
 use Rattle.label_codec.specs.declared.label.Label.{Label}
 use Rattle.label_codec.specs.Names.{printed_name}
 use Rattle.label_area.specs.declared.blocks.Current.{Current}
-use Rattle.label_area.specs.Seen.{Seen}
-use Rattle.label_area.specs.Modules.{AreaState, Missing, WrongSize, Ready, Foreign, Uninit, Module}
+use Rattle.label_area.specs.LoadedAreas.{LoadedArea}
+use Rattle.module_labels.specs.declared.kind.AreaKind.{AreaKind}
+use Rattle.module_labels.specs.declared.kind.AreaKind.TheVariants.{Missing, WrongSize, Ready, Foreign, Uninit}
+use Rattle.module_labels.specs.Labels.{Module}
 use Rattle.nfit_tables.specs.declared.fault.NfitFault.{NfitFault}
 use Rattle.nfit_tables.specs.declared.fault.NfitFault.TheVariants as nfit
 use Rattle.nd_cli.specs.declared.lines.Key.{Key}
 use Rattle.nd_cli.specs.declared.lines.Key.TheVariants.{Dimm}
 use Rattle.nd_cli.specs.declared.lines.WordFault.{WordFault}
 use Rattle.nd_cli.specs.declared.lines.WordFault.TheVariants as faults
-use Rattle.nd_cli.specs.declared.refusals.NotReady.{NotReady}
-use Rattle.nd_cli.specs.declared.refusals.NotReady.TheVariants as states
+use Rattle.nd_cli.specs.declared.faults.Fault.{Fault}
+use Rattle.nd_cli.specs.declared.faults.Fault.TheVariants as run
+use Rattle.nd_cli.specs.declared.replies.Refusal.{Refusal}
+use Rattle.nd_cli.specs.declared.replies.Refusal.TheVariants as refusals
+use Rattle.nd_cli.specs.declared.replies.Reply.{Reply}
+use Rattle.nd_cli.specs.declared.replies.Reply.TheVariants as replies
 
 -- a number as `0x` and lower case hexadecimal digits, padded with zeros to a width: what `0x{:0width x}` prints
 abbrev pub hexadecimal : ℕ → ℕ → List ℕ
@@ -61,54 +67,30 @@ last_line count current = codes "ok labels=" ++ decimal count
     ++ codes " place=" ++ decimal (place_number current.place)
     ++ codes "\n"
 
--- the live labels of the first n slots, in the order of their slots
-abbrev pub live_below : (ℕ → Option Label) → ℕ → List Label
-live_below at n = filter_map at (range_with_len 0 n)
-
+-- the live labels of a module, in the order of their slots
 abbrev pub live_labels : Module → List Label
-live_labels area = live_below area.at area.slots
+live_labels area = filter_map area.at (range_with_len 0 area.slots)
 
 -- a line for each live label, in the order of the slots, and a last line
 abbrev pub listing : Current → Module → List ℕ
 listing current area = flat_map label_line (live_labels area) ++ last_line (length (live_labels area)) current
 
 -- the listing of an area that was loaded
-abbrev pub current_of : Seen → Current
-current_of area = record { geometry = area.geometry; place = area.place; seq = area.seq }
+abbrev pub loaded_listing : LoadedArea → List ℕ
+loaded_listing area = listing (record { geometry = area.geometry; place = area.place; seq = area.seq })
+    (record { kind = Ready; slots = area.geometry.slots; at = get area.live })
 
-abbrev pub module_of : Seen → Module
-module_of area = record { state = Ready; slots = area.geometry.slots; at = get area.live }
+-- the word for the kind of an area
+abbrev pub kind_text : AreaKind → List ℕ
+kind_text Missing = codes "missing"
+kind_text WrongSize = codes "wrong-size"
+kind_text Ready = codes "ready"
+kind_text Foreign = codes "foreign"
+kind_text Uninit = codes "uninit"
 
-abbrev pub listing_of : Seen → List ℕ
-listing_of area = listing (current_of area) (module_of area)
-
-abbrev pub cause : AreaState → List ℕ
-cause Missing = codes "missing"
-cause WrongSize = codes "wrong-size"
-cause Ready = codes "ready"
-cause Foreign = codes "foreign"
-cause Uninit = codes "uninit"
-
--- the refusals of a module
-abbrev pub not_ready : ℕ → AreaState → List ℕ
-not_ready dimm state = codes "refused not-ready " ++ cause state ++ codes " dimm=" ++ handle_text dimm ++ codes "\n"
-
-abbrev pub already_ready : ℕ → List ℕ
-already_ready dimm = codes "refused already-ready dimm=" ++ handle_text dimm ++ codes "\n"
-
--- the reply to `init-labels`, and what stands in it before the number of slots
-abbrev pub initialised_front : ℕ → List ℕ
-initialised_front dimm = codes "ok initialised dimm=" ++ handle_text dimm ++ codes " slots="
-
+-- the reply to `init-labels`
 abbrev pub initialised_line : ℕ → ℕ → List ℕ
-initialised_line dimm slots = initialised_front dimm ++ decimal slots ++ codes "\n"
-
--- the state that a refusal names
-abbrev pub state_of : NotReady → AreaState
-state_of states.Missing = Missing
-state_of states.WrongSize = WrongSize
-state_of states.Foreign = Foreign
-state_of states.Uninit = Uninit
+initialised_line dimm slots = codes "ok initialised dimm=" ++ handle_text dimm ++ codes " slots=" ++ decimal slots ++ codes "\n"
 
 -- a key as it is written
 abbrev pub key_text : Key → List ℕ
@@ -124,25 +106,17 @@ word_fault_text (faults.Twice key) = codes "twice key=" ++ key_text key
 word_fault_text (faults.Missing key) = codes "missing key=" ++ key_text key
 word_fault_text (faults.Value key) = codes "value key=" ++ key_text key
 
-abbrev pub word_refusal : WordFault → List ℕ
-word_refusal fault = codes "refused words " ++ word_fault_text fault ++ codes "\n"
+-- the refusals
+abbrev pub refusal_text : Refusal → List ℕ
+refusal_text (refusals.Words fault) = codes "refused words " ++ word_fault_text fault ++ codes "\n"
+refusal_text (refusals.NotReady dimm kind) = codes "refused not-ready " ++ kind_text kind ++ codes " dimm=" ++ handle_text dimm ++ codes "\n"
+refusal_text (refusals.AlreadyReady dimm) = codes "refused already-ready dimm=" ++ handle_text dimm ++ codes "\n"
 
--- the error lines
-abbrev pub words_error : List ℕ
-words_error = codes "error words\n"
-
-abbrev pub area_error : ℕ → List ℕ
-area_error dimm = codes "error area dimm=" ++ handle_text dimm ++ codes "\n"
-
-abbrev pub memory_error : List ℕ
-memory_error = codes "error memory\n"
-
--- the source of the NFIT failed, and it gives more bytes than an NFIT may have
-abbrev pub source_error : List ℕ
-source_error = codes "error source nfit\n"
-
-abbrev pub limit_error : List ℕ
-limit_error = codes "error limit nfit\n"
+-- the text of a reply
+abbrev pub reply_text : Reply → List ℕ
+reply_text (replies.Labels area) = loaded_listing area
+reply_text (replies.Initialised dimm slots) = initialised_line dimm slots
+reply_text (replies.Refused refusal) = refusal_text refusal
 
 -- why bytes are no NFIT
 abbrev pub nfit_fault_text : NfitFault → List ℕ
@@ -155,5 +129,11 @@ nfit_fault_text (nfit.Structure at) = codes "structure at=" ++ decimal at
 nfit_fault_text (nfit.TwiceIndex kind index) = codes "twice-index kind=" ++ decimal kind ++ codes " index=" ++ decimal index
 nfit_fault_text (nfit.TooMany kind) = codes "too-many kind=" ++ decimal kind
 
-abbrev pub nfit_error : NfitFault → List ℕ
-nfit_error fault = codes "error nfit " ++ nfit_fault_text fault ++ codes "\n"
+-- the line of the fault that ended a run
+abbrev pub fault_line : Fault → List ℕ
+fault_line run.Words = codes "error words\n"
+fault_line (run.Nfit fault) = codes "error nfit " ++ nfit_fault_text fault ++ codes "\n"
+fault_line (run.Area dimm) = codes "error area dimm=" ++ handle_text dimm ++ codes "\n"
+fault_line run.Source = codes "error source nfit\n"
+fault_line run.Limit = codes "error limit nfit\n"
+fault_line run.Memory = codes "error memory\n"

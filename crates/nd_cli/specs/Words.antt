@@ -9,6 +9,8 @@ use Rattle.std.specs.Str.Parse.{digits_value}
 use Rattle.std.specs.String.{string_bytes}
 use Rattle.nd_cli.specs.declared.words.Form.{Form}
 use Rattle.nd_cli.specs.declared.words.Form.TheVariants.{Labels, Do}
+use Rattle.nd_cli.specs.declared.words.Request.{Request}
+use Rattle.nd_cli.specs.declared.words.Request.TheVariants as requests
 
 -- a word of the command line
 abbrev pub Word : Type 0
@@ -71,9 +73,11 @@ abbrev pub operands_form : List Word → Option Form
 operands_form words = if is_command (codes "do") words then do_form words else labels_form words
 
 -- Before a first `--` no word may be an option. All words behind it are taken as they are.
+abbrev pub form_in : List Word → List Word → Option Form
+form_in front back = if list_any is_option front then None else operands_form (front ++ back)
+
 abbrev pub form_of : List Word → Option Form
-form_of words =
-    if list_any is_option (before_first is_dashes words) then None else operands_form (operands words)
+form_of words = form_in (before_first is_dashes words) (after_first is_dashes words)
 
 -- the folder: the second word without a first `--`, or `.` where there are fewer than two
 abbrev pub dir_of : List Word → List ℕ
@@ -81,4 +85,22 @@ dir_of words = unwrap_or (option_map string_bytes (slice_get (operands words) 1)
 
 -- the line of `do`: the words behind the folder, with a space between each two
 abbrev pub line_of : List Word → List ℕ
-line_of words = join_by string_bytes (codes " ") (drop 2 (operands words))
+line_of operands = join_by string_bytes (codes " ") (drop 2 operands)
+
+-- what the words of a run ask for: the labels of a module, or what a line says
+pub data Asked : Type 0 where
+  LabelsOf : (dimm : ℕ) → Asked
+  Line : (bytes : List ℕ) → Asked
+
+abbrev pub asked_by : Option Form → List Word → Option Asked
+asked_by None operands = None
+asked_by (Some (Labels dimm)) operands = Some (LabelsOf dimm)
+asked_by (Some Do) operands = Some (Line (line_of operands))
+
+-- what they ask for, and none where they are no form
+abbrev pub asked : List Word → Option Asked
+asked words = asked_by (form_of words) (operands words)
+
+abbrev pub asked_in : Request → Asked
+asked_in (requests.Labels dimm) = LabelsOf dimm
+asked_in (requests.Line line) = Line (string_bytes line)

@@ -2,7 +2,7 @@
 
 ghost use Rattle.std.specs.Prelude.{◌≡◌, ◌++◌, ◌≤◌, IfOk, OnOk, string_bytes};
 ghost use Rattle.label_codec.specs.Names.{printed_name};
-ghost use Rattle.nd_cli.specs.Texts.{current_of, extent_part, identity_part, label_line, last_line, listing_of, place_number, set_part};
+ghost use Rattle.nd_cli.specs.Texts.{extent_part, identity_part, label_line, last_line, loaded_listing, place_number, set_part};
 
 use index_block::Place;
 use label_area::Area;
@@ -13,12 +13,12 @@ use uuid::Uuid;
 
 /// A line for each live label, in the order of their slots, and a last line.
 pub fn listing(alloc: Global, area: &Area) -> Result<String, AllocError>
-    ensures { IfOk result (λ text. string_bytes text ≡ listing_of area.now) }
+    ensures { IfOk result (λ text. string_bytes text ≡ loaded_listing area.now) }
 {
     let mut text = String::new(alloc);
     let mut count = 0;
-    for slot in 0..area.slots() {
-        if let Some(label) = area.label(slot) {
+    for slot in area.labels() {
+        if let Some(label) = slot {
             push_label(alloc, &mut text, label)?;
             count += 1;
         }
@@ -73,7 +73,7 @@ fn push_extent(text: &mut String, label: &Label) -> Result<(), AllocError>
 }
 
 fn push_last(text: &mut String, count: u32, area: &Area) -> Result<(), AllocError>
-    ensures { OnOk result (string_bytes text.new ≡ string_bytes text.old ++ last_line count (current_of area.now)) }
+    ensures { OnOk result (string_bytes text.new ≡ string_bytes text.old ++ last_line count (record { geometry = area.now.geometry; place = area.now.place; seq = area.now.seq })) }
 {
     write!(text, "ok labels={count} slots={}", area.slots())?;
     writeln!(text, " seq={} place={}", area.seq(), number(area.place()))

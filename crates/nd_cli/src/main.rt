@@ -1,57 +1,48 @@
 //! The program `nd`: one command line over the files of a folder.
 #![tactic(auto)]
 
-ghost use Rattle.std.specs.Prelude.{◌≡◌, IfOk, IsTrue};
-ghost use Rattle.nd_cli.specs.Answers.{is_status};
-ghost use Rattle.nd_cli.specs.declared.StartFault.TheVariants.{Memory};
 
 mod commands;
-mod endings;
 mod faults;
 mod lines;
 mod listing;
-mod refusals;
 mod replies;
+mod short_text;
+mod statuses;
 mod tables;
+mod texts;
 mod top;
 mod words;
 
-use endings::Status;
 use rig_trait::{FileRig, FileSource};
 use std::alloc::{AllocError, Global};
 use std::env;
 use std::io::ErrorKind;
 use std::process::ExitCode;
+use statuses::Status;
+use thiserror::Error;
 use top::nd_top;
 
 /// Why nothing was run, and nothing said.
+#[derive(Debug, Drop, Error)]
 enum StartFault {
-    /// The words cannot be had.
+    #[error("the words cannot be had")]
     Words,
-    Memory,
-}
-
-impl From<AllocError> for StartFault {
-    ghost from_gives = { λ _ fault. fault ≡ Memory };
-
-    fn from(_: AllocError) -> StartFault {
-        StartFault::Memory
-    }
+    #[error("memory was refused")]
+    Memory(#[from] AllocError),
 }
 
 fn main(rt: HostRuntime) -> ExitCode {
     let status = match run(rt) {
         Ok(status) => status,
         Err(StartFault::Words) => 10,
-        Err(StartFault::Memory) => Status::Memory.code(),
+        Err(StartFault::Memory(_)) => Status::Memory.code(),
     };
     ExitCode::from(status)
 }
 
 /// Runs the arguments over the files, and gives the status.
-fn run(rt: HostRuntime) -> Result<u8, StartFault>
-    ensures { IfOk result (λ status. IsTrue (is_status status)) }
-{
+fn run(rt: HostRuntime) -> Result<u8, StartFault> {
     let alloc = rt.alloc();
     let words = words_of(&rt, alloc)?;
     let dir = words::dir(&words);
@@ -64,7 +55,9 @@ fn run(rt: HostRuntime) -> Result<u8, StartFault>
 fn words_of(rt: &HostRuntime, alloc: Global) -> Result<Vec<String>, StartFault> {
     let arguments = match env::args(rt) {
         Ok(arguments) => arguments,
-        Err(error) if error.kind() == ErrorKind::OutOfMemory => return Err(StartFault::Memory),
+        Err(error) if error.kind() == ErrorKind::OutOfMemory => {
+            return Err(StartFault::Memory(AllocError));
+        }
         Err(_) => return Err(StartFault::Words),
     };
     Ok(arguments.skip(1).collect(alloc)?)

@@ -4,29 +4,37 @@ ghost use Rattle.std.specs.Prelude.{◌≡◌, ◌^◌, ◌++◌, ◌≤◌, IfO
 ghost use Rattle.std.specs.Option.{option_copied, option_map};
 ghost use Rattle.std.specs.List.{after_first, before_first};
 ghost use Rattle.std.specs.String.{string_bytes};
-ghost use Rattle.nd_cli.specs.Words.{is_dashes, is_option, below, numeral, handle, labels_form, do_form, operands_form, form_of, dir_of, line_of};
+ghost use Rattle.nd_cli.specs.Words.{asked, asked_in, below, dir_of, do_form, form_in, handle, is_dashes, is_option, labels_form, line_of, numeral, operands_form};
 
 use std::alloc::{AllocError, Global};
 
-/// The forms of command lines.
-#[derive(Clone, Copy, Debug, PartialEq, Eq)]
-pub enum Form {
+/// What the words of a run ask for.
+#[derive(Debug, Drop)]
+pub enum Request {
     /// `labels DIR HANDLE`: the labels of the module with this device handle are listed.
     Labels { dimm: u32 },
-    /// `do DIR WORD...`: the words behind the folder, with a space between each two, are one line.
+    /// `do DIR WORD...`: what the line says is done. It is the words behind the folder, with a space between each two.
+    Line(String),
+}
+
+/// The forms of command lines.
+#[derive(Clone, Copy, Debug, PartialEq, Eq)]
+enum Form {
+    Labels { dimm: u32 },
     Do,
 }
 
-impl Form {
-    /// The form that the words are, and `None` exactly where they are none.
-    pub fn of(words: &[String]) -> Option<Form>
-        ensures { result ≡ form_of words.now }
+impl Request {
+    /// What the words ask for, and `None` exactly where they are no form.
+    pub fn of(alloc: Global, words: &[String]) -> Result<Option<Request>, AllocError>
+        ensures { IfOk result (λ request. option_map asked_in request ≡ asked words.now) }
     {
         let (front, back) = around_dashes(words);
-        if front.iter().any(is_option_word) {
-            return None;
+        match form_in(front, back) {
+            None => Ok(None),
+            Some(Form::Labels { dimm }) => Ok(Some(Request::Labels { dimm })),
+            Some(Form::Do) => Ok(Some(Request::Line(line(alloc, front, back)?))),
         }
-        by_command(front, back)
     }
 }
 
@@ -38,11 +46,10 @@ pub fn dir(words: &[String]) -> &str
     operand(front, back, 1).unwrap_or(".")
 }
 
-/// The line of the form `do`: the words behind the folder, with a space between each two.
-pub fn line(alloc: Global, words: &[String]) -> Result<String, AllocError>
-    ensures { IfOk result (λ line. string_bytes line ≡ line_of words.now) }
+/// The line of the form `do`, wherever a `--` parts its words.
+fn line(alloc: Global, front: &[String], back: &[String]) -> Result<String, AllocError>
+    ensures { IfOk result (λ line. string_bytes line ≡ line_of (front.now ++ back.now)) }
 {
-    let (front, back) = around_dashes(words);
     let words: Vec<&str> = front
         .iter()
         .chain(back)
@@ -50,6 +57,16 @@ pub fn line(alloc: Global, words: &[String]) -> Result<String, AllocError>
         .map(String::as_str)
         .collect(alloc)?;
     words.join(alloc, " ")
+}
+
+/// The form of the words without a first `--`, of which those before it may be no options.
+fn form_in(front: &[String], back: &[String]) -> Option<Form>
+    ensures { result ≡ form_in front.now back.now }
+{
+    if front.iter().any(is_option_word) {
+        return None;
+    }
+    by_command(front, back)
 }
 
 /// The words before a first `--`, and those behind it: none where there is no `--`.
@@ -187,11 +204,14 @@ mod tests {
         ];
         for (line, handle, folder) in lines {
             let words = split_at_spaces(rt.alloc(), line)?;
-            let form = handle.map(|dimm| Form::Labels { dimm });
-            assert_eq!(rt; Form::of(&words), form, "at {line}");
+            let found = match Request::of(rt.alloc(), &words)? {
+                Some(Request::Labels { dimm }) => Some(dimm),
+                _ => None,
+            };
+            assert_eq!(rt; found, handle, "at {line}");
             assert_eq!(rt; dir(&words), folder, "at {line}");
         }
-        assert_eq!(rt; Form::of(&[]), None);
+        assert!(rt; Request::of(rt.alloc(), &[])?.is_none());
         assert_eq!(rt; dir(&[]), ".");
         Ok(())
     }
@@ -200,38 +220,39 @@ mod tests {
     #[test]
     fn do_tests(rt: HostRuntime) -> Result<(), Fail> {
         let lines = [
-            ("do pm x", Some(Form::Do), "pm", "x"),
-            ("do pm x y=1", Some(Form::Do), "pm", "x y=1"),
-            ("do pm x  y", Some(Form::Do), "pm", "x  y"),
-            ("do pm ", Some(Form::Do), "pm", ""),
-            ("do pm a ", Some(Form::Do), "pm", "a "),
-            ("do pm  a", Some(Form::Do), "pm", " a"),
-            ("do pm", None, "pm", ""),
-            ("do", None, ".", ""),
-            ("do -x y", None, "-x", "y"),
-            ("do -- -x y", Some(Form::Do), "-x", "y"),
-            ("do pm -x", None, "pm", "-x"),
-            ("do pm - x", Some(Form::Do), "pm", "- x"),
-            ("do pm -- -x", Some(Form::Do), "pm", "-x"),
-            ("do pm -- -- x", Some(Form::Do), "pm", "-- x"),
-            ("do -- pm a -- b", Some(Form::Do), "pm", "a -- b"),
-            ("do pm x --", Some(Form::Do), "pm", "x"),
-            ("do pm --", None, "pm", ""),
-            ("do pm -- ", Some(Form::Do), "pm", ""),
-            ("-- do pm x", Some(Form::Do), "pm", "x"),
-            ("-- -- do pm x", None, "do", "pm x"),
-            ("do labels pm 1", Some(Form::Do), "labels", "pm 1"),
-            ("Do pm x", None, "pm", "x"),
-            ("do. pm x", None, "pm", "x"),
-            ("", None, ".", ""),
+            ("do pm x", Some("x"), "pm"),
+            ("do pm x y=1", Some("x y=1"), "pm"),
+            ("do pm x  y", Some("x  y"), "pm"),
+            ("do pm ", Some(""), "pm"),
+            ("do pm a ", Some("a "), "pm"),
+            ("do pm  a", Some(" a"), "pm"),
+            ("do pm", None, "pm"),
+            ("do", None, "."),
+            ("do -x y", None, "-x"),
+            ("do -- -x y", Some("y"), "-x"),
+            ("do pm -x", None, "pm"),
+            ("do pm - x", Some("- x"), "pm"),
+            ("do pm -- -x", Some("-x"), "pm"),
+            ("do pm -- -- x", Some("-- x"), "pm"),
+            ("do -- pm a -- b", Some("a -- b"), "pm"),
+            ("do pm x --", Some("x"), "pm"),
+            ("do pm --", None, "pm"),
+            ("do pm -- ", Some(""), "pm"),
+            ("-- do pm x", Some("x"), "pm"),
+            ("-- -- do pm x", None, "do"),
+            ("do labels pm 1", Some("pm 1"), "labels"),
+            ("Do pm x", None, "pm"),
+            ("do. pm x", None, "pm"),
+            ("", None, "."),
         ];
-        for (spaced, form, folder, joined) in lines {
+        for (spaced, line, folder) in lines {
             let words = split_at_spaces(rt.alloc(), spaced)?;
-            assert_eq!(rt; Form::of(&words), form, "at {spaced}");
+            match Request::of(rt.alloc(), &words)? {
+                Some(Request::Line(found)) => assert_eq!(rt; Some(found.as_str()), line),
+                _ => assert_eq!(rt; line, None, "at {spaced}"),
+            }
             assert_eq!(rt; dir(&words), folder, "at {spaced}");
-            assert_eq!(rt; line(rt.alloc(), &words)?.as_str(), joined, "at {spaced}");
         }
-        assert_eq!(rt; line(rt.alloc(), &[])?.as_str(), "");
         Ok(())
     }
 }

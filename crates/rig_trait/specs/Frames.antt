@@ -43,6 +43,12 @@ pub record Reads {R : Type 0} (m : Ghosts R) (old new : R) : Type 0 where
   pub time : Elapses m old new (m.may_leave old)
   pub goes_on : GoesOn m old new
 
+-- Calls that say nothing.
+pub record SaysNothing {R : Type 0} (m : Ghosts R) (old new : R) : Type 0 where
+  pub said : m.said new ≡ m.said old
+  pub say_faults : m.say_faults new ≡ m.say_faults old
+  pub goes_on : GoesOn m old new
+
 -- Calls that say nothing, and write into the area of one module alone.
 pub record WritesTo {R : Type 0} (dimm : ℕ) (m : Ghosts R) (old new : R) : Type 0 where
   pub others : IsTold m old → OthersKept dimm (m.areas old) (m.areas new)
