@@ -13,11 +13,13 @@ use Rattle.index_block.specs.Written.{block_text}
 use Rattle.index_block.proofs.Behind.{kind_of-window}
 use Rattle.index_block.proofs.Sizes.{HasSizes}
 use Rattle.index_block.proofs.Usable.{kind_of-block, length-block}
-use Rattle.label_area.specs.Blocks.{seq_in, usable_seq, window_at}
+use Rattle.module_labels.specs.declared.kind.AreaKind.TheVariants.{Uninit}
+use Rattle.label_area.specs.Blocks.{kind_at, seq_in, window_at}
 use Rattle.label_area.specs.Inits.{IsVacant}
-use Rattle.label_area.specs.Modules.{Uninit, area_state}
-use Rattle.label_area.proofs.Sizes.{block_size-found, block_size-smaller, blocks_within}
-use Rattle.label_area.proofs.Vacant.{NoneSigned, seq_in-unsigned, uninit, vacant}
+use Rattle.label_area.specs.Modules.{area_kind}
+use Rattle.label_area.proofs.AreaKinds.{kind_of-unsigned}
+use Rattle.label_area.proofs.Sizes.{block_size-smaller, blocks_within}
+use Rattle.label_area.proofs.Vacant.{NoneSigned, uninit, vacant}
 
 -- What a torn write of an index block may have put at its place: what stood there, the block, or no signed block.
 abbrev pub IsLeftAt : List ℕ → ℕ → List ℕ → List ℕ → Type 0
@@ -54,11 +56,7 @@ module _ (bytes put : List ℕ) (g : Geometry) (long : length put ≡ g.block) (
       ∙ range-patched_before bytes put at inside from g.block before
       ∙ sym (front_of_window bytes from g.block most)
 
-module _ (bytes : List ℕ) (g : Geometry) (found : geometry_of (length bytes) 256 ≡ Some g) (none : NoneSigned bytes) (sizes : HasSizes g) where
-  -- the window of the second block begins with no signed one
-  second_unsigned : is_signed (window_at bytes g.block) ≡ false
-  second_unsigned = ap (λ (at : ℕ). is_signed (window_at bytes at)) (sym (block_size-found (length bytes) g found)) ∙ none.second
-
+module _ (bytes : List ℕ) (g : Geometry) (found : geometry_of (length bytes) 256 ≡ Some g) (none : NoneSigned g bytes) (sizes : HasSizes g) where
   two_fit : 2 * g.block ≤ length bytes
   two_fit = blocks_within (length bytes) g found
 
@@ -71,14 +69,13 @@ module _ (bytes : List ℕ) (g : Geometry) (found : geometry_of (length bytes) 2
     behind_first at behind = window-behind bytes put g long sizes.most 0 (omega (arith, two_fit)) at (omega arith)
 
     -- unsigned bytes in the place of the first block
-    none_signed-first : is_signed (window_at (patched bytes 0 put) 0) ≡ false → NoneSigned (patched bytes 0 put)
+    none_signed-first : is_signed (window_at (patched bytes 0 put) 0) ≡ false → NoneSigned g (patched bytes 0 put)
     none_signed-first unsigned =
         let size = size-patched bytes put g long sizes.most 0 (omega (arith, two_fit)) in
-        let at_256 : g.block ≤ block_size (length bytes) 256 = omega (arith, block_size-found (length bytes) g found) in
         let at_128 : g.block ≤ block_size (length bytes) 128 = block_size-smaller (length bytes) g found in
         record {
           first = unsigned;
-          second = ap (λ (n : ℕ). is_signed (window_at (patched bytes 0 put) (block_size n 256))) size ∙ ap is_signed (behind_first (block_size (length bytes) 256) at_256) ∙ none.second;
+          second = ap is_signed (behind_first g.block (omega arith)) ∙ none.second;
           third = ap (λ (n : ℕ). is_signed (window_at (patched bytes 0 put) (block_size n 128))) size ∙ ap is_signed (behind_first (block_size (length bytes) 128) at_128) ∙ none.third;
         }
 
@@ -94,15 +91,15 @@ module _ (bytes : List ℕ) (g : Geometry) (found : geometry_of (length bytes) 2
     pub vacant-first : IsVacant (Some (patched bytes 0 (block_text First 3 g free))) g.slots
     vacant-first =
         let first = block_text First 3 g free in
-        let unsigned = ap is_signed (behind_first first first_long g.block (omega arith)) ∙ second_unsigned in
+        let unsigned = ap is_signed (behind_first first first_long g.block (omega arith)) ∙ none.second in
         vacant (patched bytes 0 first) g (found-first first first_long) free enough all_free
-        (front-put bytes first g first_long sizes.most 0 (omega (arith, two_fit))) (inl (seq_in-unsigned Second g (window_at (patched bytes 0 first) g.block) unsigned))
+        (front-put bytes first g first_long sizes.most 0 (omega (arith, two_fit))) (inl (ap seq_in (kind_of-unsigned Second g (window_at (patched bytes 0 first) g.block) unsigned)))
 
     -- after a torn write of the first block
     pub left_by_first : (garbage : List ℕ) → length garbage ≡ g.block → IsLeftAt bytes 0 (block_text First 3 g free) garbage
-        → (area_state (Some (patched bytes 0 garbage)) ≡ Uninit) ⊎ IsVacant (Some (patched bytes 0 garbage)) g.slots
+        → (area_kind (Some (patched bytes 0 garbage)) ≡ Uninit) ⊎ IsVacant (Some (patched bytes 0 garbage)) g.slots
     left_by_first garbage long left = elim left [
-      | inl same ↦ inl (subst (λ area. area_state (Some area) ≡ Uninit) (sym same) (uninit bytes g found none))
+      | inl same ↦ inl (subst (λ area. area_kind (Some area) ≡ Uninit) (sym same) (uninit bytes g found none))
       | inr (inl new) ↦ inr (subst (λ put. IsVacant (Some (patched bytes 0 put)) g.slots) (sym new) vacant-first)
       | inr (inr unsigned) ↦ inl (uninit (patched bytes 0 garbage) g (found-first garbage long) (none_signed-first garbage long unsigned))
     ]
@@ -118,7 +115,7 @@ module _ (bytes : List ℕ) (g : Geometry) (found : geometry_of (length bytes) 2
       front-second = front-put (patched bytes 0 (block_text First 3 g free)) put g long sizes.most g.block second_fits
 
       -- and are an older block, or no usable one
-      vacant-second : (usable_seq g (patched (patched bytes 0 (block_text First 3 g free)) g.block put) Second ≡ None) ⊎ (usable_seq g (patched (patched bytes 0 (block_text First 3 g free)) g.block put) Second ≡ Some 2)
+      vacant-second : (seq_in (kind_at g (patched (patched bytes 0 (block_text First 3 g free)) g.block put) Second) ≡ None) ⊎ (seq_in (kind_at g (patched (patched bytes 0 (block_text First 3 g free)) g.block put) Second) ≡ Some 2)
           → IsVacant (Some (patched (patched bytes 0 (block_text First 3 g free)) g.block put)) g.slots
       vacant-second older =
           let first = block_text First 3 g free in
@@ -144,5 +141,5 @@ module _ (bytes : List ℕ) (g : Geometry) (found : geometry_of (length bytes) 2
         elim left [
           | inl same ↦ subst (λ area. IsVacant (Some area) g.slots) (sym same) vacant-first
           | inr (inl new) ↦ subst (λ put. IsVacant (Some (patched mid g.block put)) g.slots) (sym new) vacant-both
-          | inr (inr unsigned) ↦ vacant-second garbage long (inl (seq_in-unsigned Second g (window_at (patched mid g.block garbage) g.block) unsigned))
+          | inr (inr unsigned) ↦ vacant-second garbage long (inl (ap seq_in (kind_of-unsigned Second g (window_at (patched mid g.block garbage) g.block) unsigned)))
         ]

@@ -1,13 +1,15 @@
 -- What is left of an area by a stop while it is initialised, and that it is Ready without labels then.
-use Rattle.std.proofs.Common.{◌≡◌, ℕ, ◌+◌, ◌*◌, ◌<◌, ◌≤◌, true, List, [], length, Option, Some, None, ◌⊎◌, inl, inr, refl, sym, ap, ◌∙◌, subst, arith}
-use Rattle.std.specs.Prelude.{unwrap_or}
+use Rattle.std.proofs.Common.{◌≡◌, ℕ, ◌+◌, ◌*◌, ◌<◌, ◌≤◌, true, List, [], length, Option, Some, None, Result, ◌⊎◌, inl, inr, refl, sym, ap, ◌∙◌, subst, arith}
+use Rattle.std.specs.Prelude.{IfSome, unwrap_or}
 use Rattle.std.specs.FinMap.{get}
-use Rattle.std.specs.Option.{option_map_or}
+use Rattle.std.specs.Option.{option_and_then, option_map, option_map_or}
 use Rattle.std.proofs.lemmas.List.{length-replicate}
 use Rattle.byte_ranges.specs.Ranges.{range, patched}
 use Rattle.byte_ranges.proofs.Patched.{length-patched, range-patched_in}
-use Rattle.rig_trait.specs.Rig.{Areas, CrashRecord, IsTorn, IsWithin, OthersKept, area, torn_write, written}
-use Rattle.rig_trait.specs.TwoWrites.{LeftByTwo, neither, first_torn, first_whole, second_torn, both}
+use Rattle.rig_trait.specs.declared.rig.Failed.{Failed}
+use Rattle.rig_trait.specs.Areas.{Areas, IsWithin, OthersKept, area, written}
+use Rattle.rig_trait.specs.Records.{CrashRecord, IsTorn, torn_write}
+use Rattle.rig_trait.specs.TwoWrites.{IsInTurn, LeftByTwo, neither, first_torn, first_whole, second_torn, both}
 use Rattle.rig_trait.proofs.WrittenAreas.{get-written, get-written_other, patched_same}
 use Rattle.index_block.specs.declared.geometry.Geometry.{Geometry}
 use Rattle.index_block.specs.declared.geometry.Place.TheVariants.{First, Second}
@@ -17,13 +19,25 @@ use Rattle.index_block.specs.Geometry.{geometry_of}
 use Rattle.index_block.proofs.Behind.{is_free_in-ones}
 use Rattle.index_block.proofs.Sizes.{HasSizes, sizes_of}
 use Rattle.index_block.proofs.Usable.{length-block}
+use Rattle.module_labels.specs.declared.kind.AreaKind.TheVariants.{Uninit, WrongSize}
 use Rattle.label_area.specs.Blocks.{window_at}
 use Rattle.label_area.specs.Fair.{IsBlockWrite, IsFair}
-use Rattle.label_area.specs.Inits.{IsVacant, LeftByInit, all_free, first_block, initialised, layout_of, second_block, slots_of, with_blocks}
-use Rattle.label_area.specs.Modules.{Uninit, area_state, state_by_size}
+use Rattle.label_area.specs.Inits.{IsInOrder, IsVacant, IsWrittenInOrder, LeftByInit, all_free, first_block, initialised, layout_of, second_block, slots_of, with_blocks}
+use Rattle.label_area.specs.Modules.{area_kind, kind_by_layouts}
 use Rattle.label_area.proofs.BlocksWritten.{IsLeftAt, left_by_first, left_by_second, vacant-both, vacant-first}
+use Rattle.label_area.proofs.InOrder.{in_order-first, in_order-second, in_order-untouched}
 use Rattle.label_area.proofs.Sizes.{IsGeometry-found, blocks_within, slots-most}
 use Rattle.label_area.proofs.Vacant.{NoneSigned, none_signed}
+
+-- an area with this layout
+pub record IsStored (stored : Option (List ℕ)) (g : Geometry) : Type 0 where
+  pub bytes : List ℕ
+  pub is_area : stored ≡ Some bytes
+  pub found : geometry_of (length bytes) 256 ≡ Some g
+
+pub stored_of : (stored : Option (List ℕ)) (g : Geometry) → layout_of stored ≡ Some g → IsStored stored g
+stored_of None g layout = absurd cc
+stored_of (Some bytes) g layout = record { bytes = bytes; is_area = refl; found = layout }
 
 -- the area that is written
 get-patched : (areas : Areas) (dimm : ℕ) (bytes : List ℕ) → get areas dimm ≡ Some bytes → (at : ℕ) (put : List ℕ) → get (written areas dimm at put) dimm ≡ Some (patched bytes at put)
@@ -118,9 +132,38 @@ module _ (areas : Areas) (dimm : ℕ) (bytes : List ℕ) (g : Geometry) (stored 
     fits = rw (stored, second_block-long) (omega (arith, two_fit));
   }
 
-  module _ (is_uninit : area_state (get areas dimm) ≡ Uninit) where
-    none : NoneSigned bytes
-    none = none_signed bytes g found (sym (ap area_state stored) ∙ is_uninit)
+  -- the bytes of the area are written in order
+  in_order_by : (new : Areas) (now : List ℕ) → get new dimm ≡ Some now → IsWrittenInOrder g bytes now → IsInOrder dimm areas new
+  in_order_by new now stored_now in_order =
+      subst (λ layout. IfSome layout (λ h. IsWrittenInOrder h (area areas dimm) (area new dimm))) (sym layout-stored)
+      (subst (λ (old : List ℕ). IsWrittenInOrder g old (area new dimm)) (sym (ap (λ o. unwrap_or o []) stored))
+      (subst (λ (b : List ℕ). IsWrittenInOrder g bytes b) (sym (ap (λ o. unwrap_or o []) stored_now)) in_order))
+
+  in_order_same : (new : Areas) → new ≡ areas → IsInOrder dimm areas new
+  in_order_same new same = in_order_by new bytes (ap (λ a. get a dimm) same ∙ stored) (in_order-untouched g bytes two_fit)
+
+  -- any bytes in the place of the first block
+  in_order_first : (new : Areas) (garbage : List ℕ) → length garbage ≡ length (first_block g) → new ≡ written areas dimm 0 garbage → IsInOrder dimm areas new
+  in_order_first new garbage long same =
+      in_order_by new (patched bytes 0 garbage) (ap (λ a. get a dimm) same ∙ get-patched areas dimm bytes stored 0 garbage) (in_order-first g bytes two_fit garbage (long ∙ first_block-long))
+
+  -- the first block, and any bytes in the place of the second
+  in_order_second : (new : Areas) (garbage : List ℕ) → length garbage ≡ length (second_block g) → new ≡ written (written areas dimm 0 (first_block g)) dimm g.block garbage → IsInOrder dimm areas new
+  in_order_second new garbage long same =
+      in_order_by new (patched (patched bytes 0 (first_block g)) g.block garbage)
+      (ap (λ a. get a dimm) same ∙ get-patched (written areas dimm 0 (first_block g)) dimm (patched bytes 0 (first_block g)) first_stored g.block garbage)
+      (in_order-second g bytes two_fit first_block-long garbage (long ∙ second_block-long))
+
+  -- two writes in turn, whatever the answer
+  pub in_order_in_turn : {T : Type 0} (new : Areas) (result : Result T Failed) → IsInTurn areas new dimm 0 (first_block g) g.block (second_block g) result → IsInOrder dimm areas new
+  in_order_in_turn new result turns = elim turns [
+    | inl first ↦ in_order_first new first.1.garbage first.1.same_length first.1.areas_are
+    | inr second ↦ in_order_second new second.garbage second.same_length second.areas_are
+  ]
+
+  module _ (is_uninit : area_kind (get areas dimm) ≡ Uninit) where
+    none : NoneSigned g bytes
+    none = none_signed bytes g found (sym (ap area_kind stored) ∙ is_uninit)
 
     -- with both blocks the area is Ready without labels
     pub vacant : IsVacant (get (with_blocks g areas dimm) dimm) g.slots
@@ -128,25 +171,26 @@ module _ (areas : Areas) (dimm : ℕ) (bytes : List ℕ) (g : Geometry) (stored 
 
     module _ (said : List ℕ) (c : CrashRecord) where
       -- the area is left Uninit, or Ready without labels
-      left_as : c.said ≡ said → OthersKept dimm areas c.areas → (IsFair c → (area_state (get c.areas dimm) ≡ Uninit) ⊎ IsVacant (get c.areas dimm) g.slots) → LeftByInit areas said dimm c
-      left_as said_is others ready = record {
+      left_as : c.said ≡ said → OthersKept dimm areas c.areas → IsInOrder dimm areas c.areas → (IsFair c → (area_kind (get c.areas dimm) ≡ Uninit) ⊎ IsVacant (get c.areas dimm) g.slots) → LeftByInit areas said dimm c
+      left_as said_is others in_order ready = record {
         said_is = said_is;
         others = others;
+        in_order = in_order;
         kept = λ other. absurd (other is_uninit);
-        ready = λ is_fair _. subst (λ slots. (area_state (get c.areas dimm) ≡ Uninit) ⊎ IsVacant (get c.areas dimm) slots) (sym slots-stored) (ready is_fair);
+        ready = λ is_fair _. subst (λ slots. (area_kind (get c.areas dimm) ≡ Uninit) ⊎ IsVacant (get c.areas dimm) slots) (sym slots-stored) (ready is_fair);
       }
 
       -- it is left with these bytes, Ready without labels
-      left_vacant : c.said ≡ said → OthersKept dimm areas c.areas → (now : List ℕ) → get c.areas dimm ≡ Some now → (IsFair c → IsVacant (Some now) g.slots) → LeftByInit areas said dimm c
-      left_vacant said_is others now stored_now vacant_now =
-          left_as said_is others (λ is_fair. inr (subst (λ stored. IsVacant stored g.slots) (sym stored_now) (vacant_now is_fair)))
+      left_vacant : c.said ≡ said → OthersKept dimm areas c.areas → IsInOrder dimm areas c.areas → (now : List ℕ) → get c.areas dimm ≡ Some now → (IsFair c → IsVacant (Some now) g.slots) → LeftByInit areas said dimm c
+      left_vacant said_is others in_order now stored_now vacant_now =
+          left_as said_is others in_order (λ is_fair. inr (subst (λ stored. IsVacant stored g.slots) (sym stored_now) (vacant_now is_fair)))
 
       -- the first write was torn, or the second
       after_first_torn : IsTorn areas said dimm 0 (first_block g) c → LeftByInit areas said dimm c
       after_first_torn torn =
-          left_as torn.said_is (others-torn areas dimm bytes stored said 0 (first_block g) c torn) (λ is_fair.
+          left_as torn.said_is (others-torn areas dimm bytes stored said 0 (first_block g) c torn) (in_order_first c.areas torn.garbage torn.same_length torn.areas_are) (λ is_fair.
           let left = torn_block areas dimm bytes stored said 0 (first_block g) c torn g found first_block-long (inl refl) (omega (arith, two_fit)) is_fair in
-          subst (λ stored. (area_state stored ≡ Uninit) ⊎ IsVacant stored g.slots) (sym (get-torn areas dimm bytes stored said 0 (first_block g) c torn))
+          subst (λ stored. (area_kind stored ≡ Uninit) ⊎ IsVacant stored g.slots) (sym (get-torn areas dimm bytes stored said 0 (first_block g) c torn))
           (left_by_first bytes g found none sizes all_free enough free_bits-all torn.garbage (torn.same_length ∙ first_block-long) left))
 
       after_second_torn : IsTorn (written areas dimm 0 (first_block g)) said dimm g.block (second_block g) c → LeftByInit areas said dimm c
@@ -156,34 +200,40 @@ module _ (areas : Areas) (dimm : ℕ) (bytes : List ℕ) (g : Geometry) (stored 
           let found_mid = ap (λ (size : ℕ). geometry_of size 256) size-first ∙ found in
           left_vacant torn.said_is
           (λ q other. others-torn mid dimm mid_bytes first_stored said g.block (second_block g) c torn q other ∙ get-written_other areas dimm 0 (first_block g) q other)
+          (in_order_second c.areas torn.garbage torn.same_length torn.areas_are)
           (patched mid_bytes g.block torn.garbage) (get-torn mid dimm mid_bytes first_stored said g.block (second_block g) c torn) (λ is_fair.
           let left = torn_block mid dimm mid_bytes first_stored said g.block (second_block g) c torn g found_mid second_block-long (inr refl) (omega (arith, two_fit, size-first)) is_fair in
           left_by_second bytes g found none sizes all_free enough free_bits-all torn.garbage (torn.same_length ∙ second_block-long) left)
 
       -- what a stop within the two writes leaves is what one within `init` may leave
       pub left_by_init : LeftByTwo areas said dimm 0 (first_block g) g.block (second_block g) c → LeftByInit areas said dimm c
-      left_by_init (neither same said_is) = left_as said_is (λ q other. ap (λ a. get a q) same) (λ _. inl (ap (λ a. area_state (get a dimm)) same ∙ is_uninit))
+      left_by_init (neither same said_is) = left_as said_is (λ q other. ap (λ a. get a q) same) (in_order_same c.areas same) (λ _. inl (ap (λ a. area_kind (get a dimm)) same ∙ is_uninit))
       left_by_init (first_torn torn) = after_first_torn torn
       left_by_init (first_whole whole) =
           left_vacant whole.said_is (λ q other. ap (λ a. get a q) whole.areas_are ∙ get-written_other areas dimm 0 (first_block g) q other)
+          (in_order_first c.areas (first_block g) refl whole.areas_are)
           (patched bytes 0 (first_block g)) (ap (λ a. get a dimm) whole.areas_are ∙ first_stored) (λ _. vacant-first bytes g found none sizes all_free enough free_bits-all)
       left_by_init (second_torn torn) = after_second_torn torn
       left_by_init (both whole) =
           left_vacant whole.said_is (λ q other. ap (λ a. get a q) whole.areas_are ∙ others-both q other)
+          (in_order_second c.areas (second_block g) refl whole.areas_are)
           (patched (patched bytes 0 (first_block g)) g.block (second_block g)) (ap (λ a. get a dimm) whole.areas_are ∙ both_stored)
           (λ _. vacant-both bytes g found none sizes all_free enough free_bits-all)
 
 -- an area that is Uninit is there, and has a size that areas can have
-uninit_layout : (bytes : List ℕ) (layout : Option Geometry) → geometry_of (length bytes) 256 ≡ layout → state_by_size layout bytes ≡ Uninit → (g : Geometry) × (geometry_of (length bytes) 256 ≡ Some g)
-uninit_layout bytes None is uninit = absurd cc
+uninit_layout : (bytes : List ℕ) (layout : Option Geometry) → geometry_of (length bytes) 256 ≡ layout → area_kind (Some bytes) ≡ Uninit → (g : Geometry) × (geometry_of (length bytes) 256 ≡ Some g)
+uninit_layout bytes None is uninit = absurd (no (ap (λ own. kind_by_layouts (option_and_then (λ own. option_map (λ old. record { own = own; old = old }) (geometry_of (length bytes) 128)) own) bytes) (sym is) ∙ uninit))
+  where
+    no : WrongSize ≡ Uninit → ⊥
+    no e = cc
 uninit_layout bytes (Some g) is uninit = (g, is)
 
-uninit_stored : (stored : Option (List ℕ)) → area_state stored ≡ Uninit → (bytes : List ℕ) × (stored ≡ Some bytes) × ((g : Geometry) × (geometry_of (length bytes) 256 ≡ Some g))
+uninit_stored : (stored : Option (List ℕ)) → area_kind stored ≡ Uninit → (bytes : List ℕ) × (stored ≡ Some bytes) × ((g : Geometry) × (geometry_of (length bytes) 256 ≡ Some g))
 uninit_stored None uninit = absurd cc
 uninit_stored (Some bytes) uninit = (bytes, refl, uninit_layout bytes (geometry_of (length bytes) 256) refl uninit)
 
 -- the same in the words of `initialised`
-pub vacant-initialised : (areas : Areas) (dimm : ℕ) → area_state (get areas dimm) ≡ Uninit → IsVacant (get (initialised dimm areas) dimm) (slots_of (get areas dimm))
+pub vacant-initialised : (areas : Areas) (dimm : ℕ) → area_kind (get areas dimm) ≡ Uninit → IsVacant (get (initialised dimm areas) dimm) (slots_of (get areas dimm))
 vacant-initialised areas dimm uninit =
     let is = uninit_stored (get areas dimm) uninit in
     let g = is.2.0 in

@@ -1,13 +1,12 @@
 pub mod Windows
 pub mod Sizes
-pub mod Signed
-pub mod SlotsInUse
+pub mod AreaKinds
+pub mod LabelsBySlot
 pub mod Sound
 pub mod Shown
 pub mod Vacant
 pub mod BlocksWritten
 pub mod Initialised
-pub mod Searching
-pub mod States
+pub mod InOrder
 pub mod Initialising
 pub mod FairRecords

@@ -1,48 +1,72 @@
 -- What an area that was loaded shows of the bytes that it was loaded from.
-use Rattle.std.proofs.Common.{◌≡◌, ℕ, ◌+◌, ◌*◌, Bool, true, false, List, length, Some, None, Err, refl, sym, ap, subst, ◌∙◌}
-use Rattle.std.specs.Prelude.{if◌then◌else◌}
+use Rattle.std.proofs.Common.{◌≡◌, ℕ, ◌+◌, ◌*◌, List, [], length, Option, Some, None, refl, sym, ap, ◌∙◌}
+use Rattle.std.specs.Prelude.{unwrap_or}
 use Rattle.std.specs.FinMap.{get}
-use Rattle.std.specs.Option.{option_and_then}
-use Rattle.rig_trait.specs.Rig.{Areas}
+use Rattle.std.specs.Option.{option_and_then, option_map}
+use Rattle.rig_trait.specs.Areas.{Areas, area, size_in}
 use Rattle.index_block.specs.declared.geometry.Geometry.{Geometry}
+use Rattle.index_block.specs.declared.geometry.Place.{Place}
+use Rattle.index_block.specs.declared.geometry.Place.TheVariants.{First, Second}
 use Rattle.index_block.specs.Geometry.{FitsIn, geometry_of}
+use Rattle.module_labels.specs.declared.kind.AreaKind.TheVariants.{Ready}
+use Rattle.label_area.specs.declared.blocks.BlockKinds.{BlockKinds}
 use Rattle.label_area.specs.declared.blocks.Current.{Current}
-use Rattle.label_area.specs.declared.load.AreaFault.{AreaFault}
-use Rattle.label_area.specs.declared.load.AreaFault.TheVariants as fault
-use Rattle.label_area.specs.Blocks.{current_block, current_in, has_signed}
-use Rattle.label_area.specs.Modules.{Ready, Foreign, Uninit, area_state, live_by, module_of, slots_by, state_by_blocks, state_by_size}
-use Rattle.label_area.specs.Slots.{free_bits, live_label}
-use Rattle.label_area.specs.Used.{seen_in}
-use Rattle.label_area.specs.Loads.{IsShown, Loads}
-use Rattle.label_area.proofs.Sizes.{size_is}
-use Rattle.label_area.proofs.SlotsInUse.{label-used_below}
+use Rattle.label_area.specs.declared.layouts.Layouts.{Layouts}
+use Rattle.label_area.specs.Blocks.{current_block, current_in, current_by, kind_among, kind_at, kind_by_blocks, kinds_in}
+use Rattle.label_area.specs.Kept.{loaded_from}
+use Rattle.label_area.specs.Layouts.{layouts_of}
+use Rattle.label_area.specs.Loads.{IsShown}
+use Rattle.label_area.specs.Modules.{area_kind, kind_by_layouts, live_by, module_of, slots_by}
+use Rattle.label_area.proofs.AreaKinds.{ready}
+use Rattle.label_area.proofs.LabelsBySlot.{get-live_labels}
+use Rattle.label_area.proofs.Sizes.{layouts_found, size_is, sized}
 
--- an area without a usable block
-pub without_blocks : (dimm : ℕ) (areas : Areas) (bytes : List ℕ) (g : Geometry) (answer : AreaFault) → get areas dimm ≡ Some bytes → geometry_of (length bytes) 256 ≡ Some g → current_in g bytes ≡ None
-    → answer ≡ (if has_signed bytes then fault.Foreign else fault.Uninit) → Loads dimm areas (Err answer)
-without_blocks dimm areas bytes g answer stored found none is =
-    by_test (has_signed bytes) is (ap area_state stored ∙ ap (λ h. state_by_size h bytes) found ∙ ap (λ c. state_by_blocks c bytes) none)
+module _ (bytes : List ℕ) (g : Geometry) (found : geometry_of (length bytes) 256 ≡ Some g) where
+  -- the kind of an area with a layout
+  pub kind_is : area_kind (Some bytes) ≡ kind_by_blocks (kinds_in (record { own = g; old = sized (length bytes) 128 }) bytes)
+  kind_is = ap (λ layouts. kind_by_layouts layouts bytes) (layouts_found (length bytes) g found)
+
+  pub block_is : (current : Current) → current_in g bytes ≡ Some current → current_block (Some bytes) ≡ Some current
+  block_is current is = ap (option_and_then (λ h. current_in h bytes)) found ∙ is
+
+  -- with a current block it is Ready
+  pub ready_is : (current : Current) → current_in g bytes ≡ Some current → area_kind (Some bytes) ≡ Ready
+  ready_is current is = kind_is ∙ ready _ (kind_at g bytes First) (kind_at g bytes Second) (kind_at (sized (length bytes) 128) bytes Second) current is
+
+module _ (size : ℕ) (layouts : Layouts) where
+  kind_stored : (stored : Option (List ℕ)) → option_map length stored ≡ Some size → Some layouts ≡ layouts_of size → area_kind stored ≡ kind_by_blocks (kinds_in layouts (unwrap_or stored []))
+  kind_stored None sized found = absurd cc
+  kind_stored (Some bytes) sized found =
+      let len : length bytes ≡ size = cc in
+      ap (λ l. kind_by_layouts l bytes) (ap (λ (n : ℕ). layouts_of n) len ∙ sym found)
+
+  -- the kind of an area, by what was found in it while it stayed as it is
+  pub kind_looked : (areas mid : Areas) (dimm : ℕ) (kinds : BlockKinds) → mid ≡ areas → size_in areas dimm ≡ Some size → Some layouts ≡ layouts_of size → kinds ≡ kinds_in layouts (area mid dimm)
+      → area_kind (get areas dimm) ≡ kind_by_blocks kinds
+  kind_looked areas mid dimm kinds same sized found is =
+      kind_stored (get areas dimm) sized found ∙ ap kind_by_blocks (sym (is ∙ ap (λ a. kinds_in layouts (area a dimm)) same))
+
+-- the current one among what stands in an area is the current block of the area
+pub current_among : (layouts : Layouts) (bytes : List ℕ) → current_by layouts.own (kind_among (kinds_in layouts bytes)) ≡ current_in layouts.own bytes
+current_among layouts bytes = λ i. current_by layouts.own (λ place. same place i)
   where
-    by_test : (b : Bool) → answer ≡ (if b then fault.Foreign else fault.Uninit) → area_state (get areas dimm) ≡ (if b then Foreign else Uninit) → Loads dimm areas (Err answer)
-    by_test true e state = subst (λ a. Loads dimm areas (Err a)) (sym e) state
-    by_test false e state = subst (λ a. Loads dimm areas (Err a)) (sym e) state
+    same : (place : Place) → kind_among (kinds_in layouts bytes) place ≡ kind_at layouts.own bytes place
+    same First = refl
+    same Second = refl
 
 module _ (dimm : ℕ) (current : Current) (bytes : List ℕ) where
-  live_is : (slot : ℕ) → get (seen_in dimm current bytes).live slot ≡ live_label current bytes slot
-  live_is slot = label-used_below current.geometry bytes slot (free_bits current bytes) current.geometry.slots
-
   pub shown : (areas : Areas) (g : Geometry) → get areas dimm ≡ Some bytes → geometry_of (length bytes) 256 ≡ Some g → FitsIn (length bytes) g → current.geometry ≡ g → current_in g bytes ≡ Some current
-      → IsShown (seen_in dimm current bytes) areas
+      → IsShown (loaded_from dimm current bytes) areas
   shown areas g stored found fits same is =
-      let block : current_block (Some bytes) ≡ Some current = ap (option_and_then (λ h. current_in h bytes)) found ∙ is in
-      let ready : area_state (Some bytes) ≡ Ready = ap (λ h. state_by_size h bytes) found ∙ ap (λ c. state_by_blocks c bytes) is in
+      let block = block_is bytes g found current is in
+      let kind = ready_is bytes g found current is in
       record {
         bytes = bytes;
         is_area = stored;
         size_is = size_is (length bytes) g found fits ∙ ap (λ (h : Geometry). 2 * h.block + h.slots * h.label) (sym same);
         current_is = block;
-        free_is = refl;
+        free_is = λ slot below. refl;
         module_is = ap module_of stored
-            ∙ (λ i. record { state = ready i; slots = slots_by (block i); at = live_by (block i) bytes })
-            ∙ (λ i. record { state = Ready; slots = current.geometry.slots; at = λ slot. sym (live_is slot) i });
+            ∙ (λ i. record { kind = kind i; slots = slots_by (block i); at = live_by (block i) bytes })
+            ∙ (λ i. record { kind = Ready; slots = current.geometry.slots; at = λ slot. sym (get-live_labels current bytes slot) i });
       }

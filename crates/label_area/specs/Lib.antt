@@ -1,12 +1,10 @@
+pub mod Layouts
 pub mod Blocks
 pub mod Slots
 pub mod Modules
-pub mod Seen
-pub mod Used
+pub mod LoadedAreas
 pub mod Kept
+pub mod Faults
 pub mod Loads
-pub mod Causes
 pub mod Fair
 pub mod Inits
-pub mod InitCauses
-pub mod Looks

@@ -1,13 +1,12 @@
 //! An area that was loaded.
 
-ghost use Rattle.std.specs.Prelude.{◌≡◌, ◌<◌, ◌≤◌, length, vec_capacity, IfOk};
+ghost use Rattle.std.specs.Prelude.{◌≡◌, ◌<◌, length, IfOk};
 ghost use Rattle.std.specs.Option.{option_copied};
 ghost use Rattle.index_block.specs.Current.{IsSeq};
 ghost use Rattle.index_block.specs.Geometry.{FitsIn, IsGeometry};
-ghost use Rattle.label_area.specs.Slots.{bitmap_len, free_bits, label_at};
-ghost use Rattle.label_area.specs.Used.{AreAscending, entry_of, slots_of, used_below};
+ghost use Rattle.label_area.specs.Slots.{bitmap_len, free_bits, label_at, live_label, live_labels};
 
-use crate::blocks::{Current, block_at};
+use crate::blocks::{Current, place_window};
 use index_block::{Geometry, Place, count_free, is_free};
 use label_codec::{Label, read_label};
 use std::alloc::{AllocError, Global};
@@ -25,23 +24,16 @@ pub struct Area {
     seq: u32,
     /// The bitmap of the current index block.
     free: Vec<u8>,
-    /// The slots in use, ascending. It has room for all slots.
-    used: Vec<Used>,
-}
-
-/// A slot in use, with its label. A slot without one is junk.
-#[derive(Clone, Copy, Debug)]
-pub(crate) struct Used {
-    pub(crate) slot: u32,
-    pub(crate) label: Option<Label>,
+    /// The live label of each slot.
+    labels: Vec<Option<Label>>,
 }
 
 impl Model for Area {
-    ghost use Rattle.label_area.specs.Seen.{Seen, seen_code};
+    ghost use Rattle.label_area.specs.LoadedAreas.{LoadedArea, loaded_code};
 
-    ghost Value = { Seen };
+    ghost Value = { LoadedArea };
 
-    ghost coded = { seen_code };
+    ghost coded = { loaded_code };
 
     ghost use Rattle.label_area.specs.Kept.{IsKept, seen};
 
@@ -53,8 +45,8 @@ impl Model for Area {
 impl Area {
     ghost use Rattle.std.specs.FinMap.{get};
     ghost use Rattle.index_block.specs.Bitmap.{free_count};
-    ghost use Rattle.label_area.specs.Seen.{IsSound, is_used};
-    ghost use Rattle.label_area.specs.Used.{seen_in};
+    ghost use Rattle.label_area.specs.Kept.{loaded_from};
+    ghost use Rattle.label_area.specs.LoadedAreas.{IsSound, is_used, labels_by_slot};
 
     /// What is kept of an area with these bytes and this current block.
     pub(crate) fn of(
@@ -67,18 +59,18 @@ impl Area {
         requires label { current.now.geometry.label ≡ 256 }
         requires fits { FitsIn (length bytes.now) current.now.geometry }
         requires seq { IsSeq current.now.seq }
-        ensures seen { IfOk result (λ area. area ≡ seen_in dimm current.now bytes.now) }
+        ensures area { IfOk result (λ area. area ≡ loaded_from dimm current.now bytes.now) }
         ensures sound { IfOk result IsSound }
     {
         let free = free_bits(alloc, bytes, current)?;
-        let used = used_slots(alloc, bytes, &current.geometry, &free)?;
+        let labels = live_labels(alloc, bytes, current, &free)?;
         Ok(Area {
             dimm,
             geometry: current.geometry,
             place: current.place,
             seq: current.seq,
             free,
-            used,
+            labels,
         })
     }
 
@@ -136,18 +128,14 @@ impl Area {
     pub fn label(&self, slot: u32) -> Option<&Label>
         ensures { option_copied result ≡ get self.now.live slot }
     {
-        entry(&self.used, slot)?.label.as_ref()
+        self.labels.get(slot as usize)?.as_ref()
     }
-}
 
-/// The entry of a slot in use.
-fn entry(used: &[Used], slot: u32) -> Option<&Used>
-    requires { AreAscending 0 (slots_of used.now) }
-    ensures { option_copied result ≡ entry_of slot used.now }
-{
-    match used.binary_search_by_key(&slot, |used| used.slot) {
-        Ok(index) => Some(&used[index]),
-        Err(_) => None,
+    /// The live label of each slot, in the order of slots.
+    pub fn labels(&self) -> &[Option<Label>]
+        ensures { result.now ≡ labels_by_slot self.now }
+    {
+        &self.labels
     }
 }
 
@@ -157,32 +145,46 @@ fn free_bits(alloc: Global, area: &[u8], current: &Current) -> Result<Vec<u8>, A
     ensures bits { IfOk result (λ free. free.items ≡ free_bits current.now area.now) }
     ensures len { IfOk result (λ free. length free.items ≡ bitmap_len current.now.geometry.slots) }
 {
-    let map = &block_at(area, current.place, &current.geometry)[HEADER..];
+    let map = &place_window(area, current.place, &current.geometry)[HEADER..];
     let len = current.geometry.slots.div_ceil(8) as usize;
     Vec::from_slice(alloc, &map[..len])
 }
 
-/// The slots in use, with room for all slots.
-fn used_slots(
+/// The live labels of all slots, in their order. `free` is the bitmap of the current block.
+fn live_labels(
     alloc: Global,
     area: &[u8],
-    geometry: &Geometry,
+    current: &Current,
     free: &[u8],
-) -> Result<Vec<Used>, AllocError>
-    requires label { geometry.now.label ≡ 256 }
-    requires fits { FitsIn (length area.now) geometry.now }
-    requires bits { length free.now ≡ bitmap_len geometry.now.slots }
-    ensures used { IfOk result (λ used. used.items ≡ used_below geometry.now area.now free.now geometry.now.slots) }
-    ensures room { IfOk result (λ used. geometry.now.slots ≤ vec_capacity used) }
+) -> Result<Vec<Option<Label>>, AllocError>
+    requires label { current.now.geometry.label ≡ 256 }
+    requires fits { FitsIn (length area.now) current.now.geometry }
+    requires free { free.now ≡ free_bits current.now area.now }
+    requires bits { length free.now ≡ bitmap_len current.now.geometry.slots }
+    ensures { IfOk result (λ labels. labels.items ≡ live_labels current.now area.now) }
 {
-    let mut used = Vec::with_capacity(alloc, geometry.slots as usize)?;
-    for slot in 0..geometry.slots {
-        if !is_free(free, slot) {
-            let label = label_at(area, slot, geometry);
-            used.push(Used { slot, label })?;
-        }
+    let slots = current.geometry.slots;
+    let mut labels = Vec::with_capacity(alloc, slots as usize)?;
+    for slot in 0..slots {
+        labels.push(live_label(area, slot, current, free))?;
     }
-    Ok(used)
+    Ok(labels)
+}
+
+/// The label of a slot, where the current block marks the slot in use.
+fn live_label(area: &[u8], slot: u32, current: &Current, free: &[u8]) -> Option<Label>
+    requires label { current.now.geometry.label ≡ 256 }
+    requires fits { FitsIn (length area.now) current.now.geometry }
+    requires free { free.now ≡ free_bits current.now area.now }
+    requires bits { length free.now ≡ bitmap_len current.now.geometry.slots }
+    requires slot { slot < current.now.geometry.slots }
+    ensures { result ≡ live_label current.now area.now slot }
+{
+    if is_free(free, slot) {
+        None
+    } else {
+        label_at(area, slot, &current.geometry)
+    }
 }
 
 /// The label in a slot, where the slot's bytes are its label.

@@ -4,11 +4,13 @@
 mod area;
 mod blocks;
 mod init;
+mod layouts;
 mod load;
 
 pub use area::Area;
-pub use blocks::Current;
+pub use blocks::{BlockKinds, Current};
 pub use init::InitFault;
+pub use layouts::Layouts;
 pub use load::AreaFault;
 
 #[cfg(test)]

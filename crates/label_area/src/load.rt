@@ -1,17 +1,16 @@
 //! How an area is loaded.
 
-ghost use Rattle.std.specs.Prelude.{◌≡◌, ◌≤◌, ◌⊎◌, Some, if◌then◌else◌, length, vec_len, IfErr, IfOk, IsTrue};
-ghost use Rattle.std.specs.Option.{option_map};
+ghost use Rattle.std.specs.Prelude.{◌≡◌, None, Some, vec_len, IfErr, IfOk};
 ghost use Rattle.std.specs.FinMap.{get};
-ghost use Rattle.index_block.specs.Geometry.{FitsIn, geometry_of};
-ghost use Rattle.rig_trait.specs.Rig.{Elapses};
-ghost use Rattle.label_area.specs.declared.load.AreaFault.TheVariants.{Failed, Foreign, Memory, Uninit};
-ghost use Rattle.label_area.specs.Blocks.{has_signed};
-ghost use Rattle.label_area.specs.Causes.{HasCause};
+ghost use Rattle.rig_trait.specs.Areas.{size_in};
+ghost use Rattle.rig_trait.specs.Frames.{FailsAt, IsTold, Reads};
+ghost use Rattle.label_area.specs.declared.load.AreaFault.TheVariants.{Failed, Memory};
+ghost use Rattle.label_area.specs.Faults.{is_load_failed, load_kind};
 
 use crate::area::Area;
-use crate::blocks::{LABEL, current_in, has_signed};
-use index_block::Geometry;
+use crate::blocks::BlockKinds;
+use crate::layouts::Layouts;
+use module_labels::AreaKind;
 use rig_trait::Rig;
 use std::alloc::{AllocError, Global};
 
@@ -32,6 +31,21 @@ pub enum AreaFault {
     Memory,
 }
 
+impl AreaFault {
+    /// The kind of the area. `None` where nothing tells it: the rig failed, or memory was refused.
+    pub fn kind(self) -> Option<AreaKind>
+        ensures { result ≡ load_kind self }
+    {
+        match self {
+            AreaFault::Missing => Some(AreaKind::Missing),
+            AreaFault::WrongSize => Some(AreaKind::WrongSize),
+            AreaFault::Uninit => Some(AreaKind::Uninit),
+            AreaFault::Foreign => Some(AreaKind::Foreign),
+            AreaFault::Failed | AreaFault::Memory => None,
+        }
+    }
+}
+
 impl From<rig_trait::Failed> for AreaFault {
     ghost from_gives = { λ _ fault. fault ≡ Failed };
 
@@ -50,47 +64,32 @@ impl From<AllocError> for AreaFault {
 
 impl Area {
     ghost use Rattle.label_area.specs.Loads.{Loads};
-    ghost use Rattle.label_area.specs.Seen.{IsSound};
+    ghost use Rattle.label_area.specs.LoadedAreas.{IsSound};
 
     /// Loads the area of a module: it asks for the size, and reads the whole area where areas can have that size. It
     /// takes the room for all slots.
     pub fn load<R: Rig>(alloc: Global, rig: &mut R, dimm: u32) -> Result<Area, AreaFault>
-        ensures loaded { IsTrue (R.tells rig.old) → Loads dimm (R.areas rig.old) result }
+        ensures loaded { IsTold R.Shown rig.old → Loads dimm (R.areas rig.old) result }
         ensures dimm { IfOk result (λ area. area.dimm ≡ dimm) }
         ensures sound { IfOk result IsSound }
-        ensures cause { IfErr result (HasCause (R.faults rig.old) (R.faults rig.new) (R.failed_dimm rig.new) dimm) }
-        ensures later { R.faults rig.old ≤ R.faults rig.new }
-        ensures areas { R.areas rig.new ≡ R.areas rig.old }
-        ensures said { R.said rig.new ≡ R.said rig.old }
-        ensures tells { R.tells rig.new ≡ R.tells rig.old }
-        ensures tells_records { IsTrue (R.tells_records rig.old) → IsTrue (R.tells_records rig.new) }
-        ensures time { Elapses (R.moment rig.old) (R.moment rig.new) (R.left_since rig.old) (R.left_since rig.new) (R.may_leave rig.new) (R.may_leave rig.old) }
-        ensures say_faults { R.say_faults rig.new ≡ R.say_faults rig.old }
+        ensures reads_only { Reads R.Shown rig.old rig.new }
+        ensures cause { FailsAt dimm R.Shown rig.old rig.new (is_load_failed result) }
     {
         let Some(size) = rig.size(dimm)? else {
             return Err(AreaFault::Missing);
         };
-        let Some(geometry) = Geometry::of(size, LABEL) else {
+        let Some(layouts) = Layouts::of(size) else {
             return Err(AreaFault::WrongSize);
         };
         let bytes = read_whole(alloc, rig, dimm, size)?;
-        let Some(current) = current_in(&bytes, geometry) else {
-            return Err(without_blocks(&bytes, &geometry));
+        let kinds = BlockKinds::of(&bytes, &layouts);
+        let Some(current) = kinds.current(layouts.own) else {
+            return match kinds.kind() {
+                AreaKind::Foreign => Err(AreaFault::Foreign),
+                _ => Err(AreaFault::Uninit),
+            };
         };
         Ok(Area::of(alloc, dimm, &bytes, &current)?)
-    }
-}
-
-/// Why an area without a usable block isn't Ready.
-fn without_blocks(area: &[u8], geometry: &Geometry) -> AreaFault
-    requires geometry { geometry_of (length area.now) 256 ≡ Some geometry.now }
-    requires fits { FitsIn (length area.now) geometry.now }
-    ensures { result ≡ (if has_signed area.now then Foreign else Uninit) }
-{
-    if has_signed(area, geometry) {
-        AreaFault::Foreign
-    } else {
-        AreaFault::Uninit
     }
 }
 
@@ -101,18 +100,12 @@ fn read_whole<R: Rig>(
     dimm: u32,
     size: u64,
 ) -> Result<Vec<u8>, AreaFault>
-    requires { IsTrue (R.tells rig.old) → Some size ≡ option_map length (get (R.areas rig.old) dimm) }
-    ensures whole { IsTrue (R.tells rig.old) → IfOk result (λ bytes. get (R.areas rig.old) dimm ≡ Some bytes.items) }
+    requires { IsTold R.Shown rig.old → size_in (R.areas rig.old) dimm ≡ Some size }
+    ensures whole { IsTold R.Shown rig.old → IfOk result (λ bytes. get (R.areas rig.old) dimm ≡ Some bytes.items) }
     ensures len { IfOk result (λ bytes. vec_len bytes ≡ size) }
-    ensures failed { IfErr result (λ fault. (fault ≡ Failed) ⊎ (fault ≡ Memory)) }
-    ensures cause { IfErr result (HasCause (R.faults rig.old) (R.faults rig.new) (R.failed_dimm rig.new) dimm) }
-    ensures later { R.faults rig.old ≤ R.faults rig.new }
-    ensures areas { R.areas rig.new ≡ R.areas rig.old }
-    ensures said { R.said rig.new ≡ R.said rig.old }
-    ensures tells { R.tells rig.new ≡ R.tells rig.old }
-    ensures tells_records { IsTrue (R.tells_records rig.old) → IsTrue (R.tells_records rig.new) }
-    ensures time { Elapses (R.moment rig.old) (R.moment rig.new) (R.left_since rig.old) (R.left_since rig.new) (R.may_leave rig.new) (R.may_leave rig.old) }
-    ensures say_faults { R.say_faults rig.new ≡ R.say_faults rig.old }
+    ensures unknown { IfErr result (λ fault. load_kind fault ≡ None) }
+    ensures reads_only { Reads R.Shown rig.old rig.new }
+    ensures cause { FailsAt dimm R.Shown rig.old rig.new (is_load_failed result) }
 {
     let mut bytes = vec![in alloc; 0; size as usize]?;
     rig.read(dimm, 0, &mut bytes)?;

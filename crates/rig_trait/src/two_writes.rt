@@ -4,7 +4,7 @@ ghost use Rattle.std.specs.Prelude.{◌≡◌, length};
 ghost use Rattle.std.specs.Result.{is_err};
 ghost use Rattle.rig_trait.specs.Areas.{IsWithin};
 ghost use Rattle.rig_trait.specs.Frames.{IsTold, WritesTo, FailsAt};
-ghost use Rattle.rig_trait.specs.TwoWrites.{LeavesTwo, WritesBoth};
+ghost use Rattle.rig_trait.specs.TwoWrites.{LeavesTwo, WritesBoth, WritesInTurn};
 
 use crate::{Failed, Rig};
 
@@ -22,6 +22,7 @@ pub fn write_two<R: Rig>(
     requires first { IsTold R.Shown rig.old → IsWithin (R.areas rig.old) dimm first_at (length first.now) }
     requires second { IsTold R.Shown rig.old → IsWithin (R.areas rig.old) dimm second_at (length second.now) }
     ensures both { WritesBoth R.Shown rig.old rig.new dimm first_at first.now second_at second.now result }
+    ensures in_turn { WritesInTurn R.Shown rig.old rig.new dimm first_at first.now second_at second.now result }
     ensures any_moment { LeavesTwo R.Shown rig.old rig.new dimm first_at first.now second_at second.now }
     ensures writes_only { WritesTo dimm R.Shown rig.old rig.new }
     ensures cause { FailsAt dimm R.Shown rig.old rig.new (is_err result) }

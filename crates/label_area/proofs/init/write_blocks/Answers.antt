@@ -1,14 +1,13 @@
 use Rattle.std.proofs.Common.{◌≡◌, ℕ, List, length, sym, subst}
 use Rattle.std.specs.FinMap.{get}
-use Rattle.rig_trait.specs.Rig.{IsWithin}
+use Rattle.rig_trait.specs.Areas.{IsWithin}
 use Rattle.label_area.specs.Inits.{first_block, second_block}
-use Rattle.label_area.proofs.Initialised.{first_within, second_within}
-use Rattle.label_area.proofs.States.{stored_of}
+use Rattle.label_area.proofs.Initialised.{first_within, in_order_in_turn, second_within, stored_of}
 use Rattle.label_area.proofs.init.write_blocks.Goals as goal
 
 pub write_two-requires : goal.write_two-requires
 write_two-requires g c =
-    let areas = g.R.Rig.areas c.args.rig.now in
+    let areas = g.R.Shown.areas c.args.rig.now in
     let dimm = c.args.dimm in
     let geometry = c.args.geometry.now in
     let first_is : c.write_block.new.into ≡ first_block geometry = c.write_block.ensures.text in
@@ -31,3 +30,10 @@ returns-clause-any_moment g c tells =
 pub returns-clause-both : goal.returns-clause-both
 returns-clause-both g c tells =
     rw (c.write_block.ensures.text, c.write_block-2.ensures.text, c.from.ensures) at (c.write_two.ensures.both tells)
+
+pub returns-clause-in_order : goal.returns-clause-in_order
+returns-clause-in_order g c told =
+    let areas = g.R.Shown.areas c.args.rig.now in
+    let is = stored_of (get areas c.args.dimm) c.args.geometry.now (c.requires.layout told) in
+    in_order_in_turn areas c.args.dimm is.bytes c.args.geometry.now is.is_area is.found (g.R.Shown.areas c.write_two.new.rig) c.write_two.result
+    (rw (c.write_block.ensures.text, c.write_block-2.ensures.text, c.from.ensures) at (c.write_two.ensures.in_turn told))

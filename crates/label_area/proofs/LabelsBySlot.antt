@@ -1,0 +1,78 @@
+-- The labels by slot, as a map.
+use Rattle.std.proofs.Common.{◌≡◌, ◌≢◌, inl, inr, ℕ, zero, suc, ◌+◌, ◌<◌, Bool, true, false, ◌&&◌, cond, List, [], ◌∷◌, length, get_or, map, Option, Some, None, refl, sym, subst, ◌∙◌, arith}
+use Rattle.std.specs.Prelude.{if◌then◌else◌, nat_lt, not, IsSome, IsTrue}
+use Rattle.std.specs.Ordering.{nat_cmp, eq_by_cmp}
+use Rattle.std.specs.Cmp.{nat_cmp_total}
+use Rattle.std.specs.FinMap as finite
+use Rattle.std.specs.FinMap.{get, get-from_entries}
+use Rattle.std.specs.List.{cons_option, range_with_len}
+use Rattle.std.specs.Option.{option_map}
+use Rattle.std.proofs.lemmas.Bool.{cases_lt}
+use Rattle.std.proofs.lemmas.Bool.Decides.{nat_tests}
+use Rattle.std.proofs.lemmas.List.{get_or_default, get_or_past, same_lists}
+use Rattle.std.proofs.lemmas.List.FromFn.{get_or-map-range_with_len, length-map-range_with_len}
+use Rattle.index_block.specs.Bitmap.{is_free_in}
+use Rattle.label_codec.specs.declared.label.Label.{Label}
+use Rattle.label_area.specs.declared.blocks.Current.{Current}
+use Rattle.label_area.specs.Kept.{entries_from, live_of}
+use Rattle.label_area.specs.Slots.{free_bits, is_in_use, label_at, live_label, live_labels}
+
+module _ (slot : ℕ) where
+  here : (n : ℕ) → n ≡ slot → eq_by_cmp nat_cmp slot n ≡ true
+  here n e = grind arith
+
+  elsewhere : (n : ℕ) → n ≢ slot → eq_by_cmp nat_cmp slot n ≡ false
+  elsewhere n other = grind arith
+
+  skip : (label : Option Label) (n : ℕ) (es : List (ℕ × Label)) → n ≢ slot → finite.find nat_cmp slot (cons_option (option_map (λ l. (n, l)) label) es) ≡ finite.find nat_cmp slot es
+  skip None n es other = refl
+  skip (Some label) n es other = rw (elsewhere n other) refl
+
+  take_it : (label : Option Label) (n : ℕ) (es : List (ℕ × Label)) → n ≡ slot → finite.find nat_cmp slot es ≡ None → finite.find nat_cmp slot (cons_option (option_map (λ l. (n, l)) label) es) ≡ label
+  take_it None n es e none = none
+  take_it (Some label) n es e none = rw (here n e) refl
+
+  none_below : (from : ℕ) (labels : List (Option Label)) → slot < from → finite.find nat_cmp slot (entries_from from labels) ≡ None
+  none_below from [] lt = refl
+  none_below from (o ∷ labels) lt = skip o from (entries_from (from + 1) labels) (λ e. omega (arith, e, lt)) ∙ none_below (from + 1) labels (omega arith)
+
+  find_from : (from i : ℕ) (labels : List (Option Label)) → from + i ≡ slot → finite.find nat_cmp slot (entries_from from labels) ≡ get_or labels i None
+  find_from from i [] e = refl
+  find_from from zero (o ∷ labels) e = take_it o from (entries_from (from + 1) labels) (omega (arith, e)) (none_below (from + 1) labels (omega (arith, e)))
+  find_from from (suc i) (o ∷ labels) e = skip o from (entries_from (from + 1) labels) (λ same. omega (arith, same, e)) ∙ find_from (from + 1) i labels (omega (arith, e))
+
+  -- the label of a slot is what stands in its place
+  pub get-live_of : (labels : List (Option Label)) → get (live_of labels) slot ≡ get_or labels slot None
+  get-live_of labels = get-from_entries nat_cmp_total (entries_from 0 labels) slot ∙ find_from 0 slot labels (omega arith)
+
+-- the labels of the map, in the order of slots
+pub labels-live_of : (labels : List (Option Label)) (n : ℕ) → length labels ≡ n → map (get (live_of labels)) (range_with_len 0 n) ≡ labels
+labels-live_of labels n long =
+    let count = length-map-range_with_len (get (live_of labels)) 0 n in
+    same_lists _ _ (omega (arith, count, long)) (λ k d lt.
+    let below : k < n = omega (arith, count, lt) in
+    get_or-map-range_with_len (get (live_of labels)) 0 n k k d below (omega arith) ∙ get-live_of k labels ∙ get_or_default labels k None d (omega (arith, below, long)))
+
+module _ (current : Current) (area : List ℕ) (slot : ℕ) where
+  in_place : get_or (live_labels current area) slot None ≡ live_label current area slot
+  in_place = elim (cases_lt slot current.geometry.slots) [
+    | inl lt ↦ get_or-map-range_with_len (live_label current area) 0 current.geometry.slots slot slot None lt (omega arith)
+    | inr le ↦
+        let past : nat_lt slot current.geometry.slots ≡ false = grind (arith, nat_tests) in
+        let count : length (live_labels current area) ≡ current.geometry.slots = length-map-range_with_len (live_label current area) 0 current.geometry.slots in
+        get_or_past (live_labels current area) slot None (omega arith)
+        ∙ sym (λ i. cond (past i && not (is_free_in (free_bits current area) slot)) (label_at current.geometry area slot) None)
+  ]
+
+  -- the map of the live labels has the live label of each slot
+  pub get-live_labels : get (live_of (live_labels current area)) slot ≡ live_label current area slot
+  get-live_labels = get-live_of slot (live_labels current area) ∙ in_place
+
+  -- and a slot with one is in use
+  pub live-in_use : IsSome (get_or (live_labels current area) slot None) → IsTrue (is_in_use (free_bits current area) current.geometry.slots slot)
+  live-in_use some = by (is_in_use (free_bits current area) current.geometry.slots slot) refl (subst IsSome in_place some)
+    where
+      by : (b : Bool) → is_in_use (free_bits current area) current.geometry.slots slot ≡ b → IsSome (if b then label_at current.geometry area slot else None)
+          → IsTrue (is_in_use (free_bits current area) current.geometry.slots slot)
+      by true is s = is
+      by false is s = absurd cc

@@ -1,0 +1,44 @@
+-- What a fault of an area says of the kind of the area, and which faults are the rig's.
+use Rattle.std.specs.Prelude.{Bool, true, false, Option, Some, None, Result, Ok, Err}
+use Rattle.module_labels.specs.declared.kind.AreaKind.{AreaKind}
+use Rattle.module_labels.specs.declared.kind.AreaKind.TheVariants.{Missing, WrongSize, Ready, Foreign, Uninit}
+use Rattle.label_area.specs.declared.init.InitFault.{InitFault}
+use Rattle.label_area.specs.declared.init.InitFault.TheVariants as init
+use Rattle.label_area.specs.declared.load.AreaFault.{AreaFault}
+use Rattle.label_area.specs.declared.load.AreaFault.TheVariants as load
+
+-- the kind of an area that isn't loaded; nothing tells it where the rig failed, or memory was refused
+abbrev pub load_kind : AreaFault → Option AreaKind
+load_kind load.Missing = Some Missing
+load_kind load.WrongSize = Some WrongSize
+load_kind load.Uninit = Some Uninit
+load_kind load.Foreign = Some Foreign
+load_kind load.Failed = None
+load_kind load.Memory = None
+
+-- the kind of an area that isn't initialised; nothing tells it where the rig failed
+abbrev pub init_kind : InitFault → Option AreaKind
+init_kind init.Missing = Some Missing
+init_kind init.WrongSize = Some WrongSize
+init_kind init.Foreign = Some Foreign
+init_kind init.AlreadyReady = Some Ready
+init_kind init.Failed = None
+
+-- the rig failed while an area was loaded
+abbrev pub is_load_failed : {T : Type 0} → Result T AreaFault → Bool
+is_load_failed (Ok value) = false
+is_load_failed (Err load.Missing) = false
+is_load_failed (Err load.WrongSize) = false
+is_load_failed (Err load.Uninit) = false
+is_load_failed (Err load.Foreign) = false
+is_load_failed (Err load.Failed) = true
+is_load_failed (Err load.Memory) = false
+
+-- the rig failed while an area was initialised
+abbrev pub is_init_failed : {T : Type 0} → Result T InitFault → Bool
+is_init_failed (Ok value) = false
+is_init_failed (Err init.Missing) = false
+is_init_failed (Err init.WrongSize) = false
+is_init_failed (Err init.Foreign) = false
+is_init_failed (Err init.AlreadyReady) = false
+is_init_failed (Err init.Failed) = true
