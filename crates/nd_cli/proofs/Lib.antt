@@ -1,3 +1,11 @@
 pub mod Pieces
 pub mod Hexadecimal
 pub mod Appended
+pub mod LabelLines
+pub mod Unsaid
+pub mod Requests
+pub mod Answered
+pub mod Refused
+pub mod Endings
+pub mod Saying
+pub mod Ends

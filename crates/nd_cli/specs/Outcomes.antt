@@ -1,5 +1,5 @@
 -- What a run comes to, and why: a reply, or the first fault, which ends it.
-use Rattle.std.specs.Prelude.{◌≡◌, ◌<◌, ◌≤◌, ℕ, Bool, true, false, IsSome, List, [], Option, Some, None, Result, Ok, Err, if◌then◌else◌, length, not, take, ◌++◌}
+use Rattle.std.specs.Prelude.{◌≡◌, ◌<◌, ◌≤◌, ℕ, Bool, true, false, List, [], Option, Some, None, Result, Ok, Err, if◌then◌else◌, length, not, take, ◌++◌}
 use Rattle.rig_trait.specs.declared.shown.Shown as rigs
 use Rattle.rig_trait.specs.declared.source.Source as sources
 use Rattle.rig_trait.specs.Faults.{counted}
@@ -66,12 +66,6 @@ is_area_fault (Fails Memory) = false
 abbrev pub is_source_fault : Outcome → Bool
 is_source_fault (Replies accepted text) = false
 is_source_fault (Fails fault) = is_of_source fault
-
--- the request is a line, which is run on a platform whose NFIT is read first
-abbrev pub NeedsNfit : Option Asked → Type 0
-NeedsNfit (Some (Line bytes)) = Unit {0}
-NeedsNfit (Some (LabelsOf dimm)) = ⊥
-NeedsNfit None = ⊥
 
 -- the module whose area is asked for something
 abbrev pub module_asked : Asked → Option ℕ

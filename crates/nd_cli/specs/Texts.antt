@@ -1,5 +1,5 @@
 -- The texts that are said. Each line ends with the byte 0x0A.
-use Rattle.std.specs.Prelude.{ℕ, ◌-◌, ◌^◌, List, [], ◌++◌, Option, codes, false, length}
+use Rattle.std.specs.Prelude.{ℕ, ◌-◌, ◌^◌, List, [], ◌++◌, codes, false, length}
 use Rattle.std.specs.Fmt.{decimal, digits, format_spec, padded_integral}
 use Rattle.std.specs.FinMap.{get}
 use Rattle.std.specs.List.{filter_map, flat_map, range_with_len}

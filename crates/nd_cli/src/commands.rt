@@ -18,7 +18,6 @@ use std::alloc::Global;
 /// Loads the area of a module, whose labels are listed, or refuses to where it is not Ready.
 pub fn labels<R: Rig>(alloc: Global, rig: &mut R, dimm: u32) -> Result<Option<Reply>, Fault>
     ensures does { Does R.Shown (LabelsOf dimm) rig.old rig.new (outcome_of result) }
-    ensures unwritten { may_have_written result ≡ false }
     ensures reads_only { Reads R.Shown rig.old rig.new }
 {
     let fault = match Area::load(alloc, rig, dimm) {

@@ -72,7 +72,7 @@ fn push_extent(text: &mut String, label: &Label) -> Result<(), AllocError>
     writeln!(text, " size={}", label.raw_size)
 }
 
-fn push_last(text: &mut String, count: u32, area: &Area) -> Result<(), AllocError>
+fn push_last(text: &mut String, count: usize, area: &Area) -> Result<(), AllocError>
     ensures { OnOk result (string_bytes text.new ≡ string_bytes text.old ++ last_line count (record { geometry = area.now.geometry; place = area.now.place; seq = area.now.seq })) }
 {
     write!(text, "ok labels={count} slots={}", area.slots())?;

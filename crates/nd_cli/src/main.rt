@@ -1,7 +1,6 @@
 //! The program `nd`: one command line over the files of a folder.
 #![tactic(auto)]
 
-
 mod commands;
 mod faults;
 mod lines;
@@ -15,11 +14,11 @@ mod top;
 mod words;
 
 use rig_trait::{FileRig, FileSource};
+use statuses::Status;
 use std::alloc::{AllocError, Global};
 use std::env;
 use std::io::ErrorKind;
 use std::process::ExitCode;
-use statuses::Status;
 use thiserror::Error;
 use top::nd_top;
 

@@ -1,95 +1,25 @@
-//! Runs over areas that are built by hand, from the offsets of their fields.
-
-ghost use Rattle.std.specs.Prelude.{◌≡◌, ◌+◌, ◌%◌, ◌≤◌};
+//! Runs over areas and NFITs that are built by hand.
 
 use crate::top::nd_top;
-use byteorder::{ByteOrder, LittleEndian};
-use fletcher64::fletcher64_but;
 use rig_trait::{MemoryRig, MemorySource, Rig, Source};
 use std::alloc::{AllocError, Global};
 use std::test::Fail;
-use view_types::PERSISTENT_MEMORY;
+use test_areas::{LABEL, LabelFields, block, name, nfit, old_block, small_area, torn, two_modules};
 
-/// The uuid 0f6b1a52-7c3e-4d28-9a41-5be0c7d2e813.
-const UUID: [u8; 16] = [
-    0x0f, 0x6b, 0x1a, 0x52, 0x7c, 0x3e, 0x4d, 0x28, 0x9a, 0x41, 0x5b, 0xe0, 0xc7, 0xd2, 0xe8, 0x13,
-];
-
-/// An index block of an area of 1,024 bytes, which has two slots. A used slot is a bit of `used`.
-fn block(second: bool, seq: u32, used: u8) -> [u8; 256] {
-    let mut block = [0; 256];
-    block[..16].copy_from_slice(b"NAMESPACE_INDEX\0");
-    block[19] = 1;
-    LittleEndian::write_u32(&mut block[20..], seq);
-    LittleEndian::write_u64(&mut block[24..], if second { 256 } else { 0 });
-    LittleEndian::write_u64(&mut block[32..], 256);
-    LittleEndian::write_u64(&mut block[40..], if second { 0 } else { 256 });
-    LittleEndian::write_u64(&mut block[48..], 512);
-    LittleEndian::write_u32(&mut block[56..], 2);
-    LittleEndian::write_u16(&mut block[60..], 1);
-    LittleEndian::write_u16(&mut block[62..], 2);
-    block[72] = 3 ^ (used & 3);
-    with_checksum(block, 64)
+/// A command line, and what is wanted of its run: the status, and all that is said.
+#[derive(Clone, Copy)]
+struct Row<'a> {
+    line: &'a str,
+    status: u8,
+    text: &'a str,
 }
 
-/// The same block, of version 1.1: for the four labels of 128 bytes of the same area.
-fn of_version_1_1(mut block: [u8; 256]) -> [u8; 256] {
-    block[19] = 0;
-    block[56] = 4;
-    block[62] = 1;
-    block[72] = 0x0f;
-    with_checksum(block, 64)
-}
+const FREE: [u8; 256] = [0xee; 256];
 
-/// The same block with one byte of its padding turned.
-fn torn(mut block: [u8; 256]) -> [u8; 256] {
-    block[200] ^= 0x80;
-    block
-}
+const ZEROS: [u8; 256] = [0; 256];
 
-/// A label of 4 MiB for a slot, in a set of one with the cookie 0x0000a3de00001235.
-fn label(slot: u8, name: &[u8; 64]) -> [u8; 256] {
-    let mut label = [0; 256];
-    label[..16].copy_from_slice(&UUID);
-    label[16..80].copy_from_slice(name);
-    label[84] = 1;
-    label[88] = 0x35;
-    label[89] = 0x12;
-    label[92] = 0xde;
-    label[93] = 0xa3;
-    label[97] = 0x02;
-    label[114] = 0x40;
-    label[120] = slot;
-    with_checksum(label, 248)
-}
-
-/// The same bytes with the checksum in this field.
-fn with_checksum(mut bytes: [u8; 256], at: usize) -> [u8; 256]
-    requires within { at + 8 ≤ 256 }
-    requires aligned { at % 4 ≡ 0 }
-{
-    let checksum = fletcher64_but(&bytes, at);
-    LittleEndian::write_u64(&mut bytes[at..], checksum);
-    bytes
-}
-
-/// 64 bytes that begin with these.
-fn name(text: &[u8]) -> [u8; 64] {
-    let mut name = [0; 64];
-    for (byte, place) in text.iter().zip(name.iter_mut()) {
-        *place = *byte;
-    }
-    name
-}
-
-/// An area of its four parts.
-fn area(alloc: Global, parts: [[u8; 256]; 4]) -> Result<Vec<u8>, AllocError> {
-    let mut area = Vec::with_capacity(alloc, 1024)?;
-    for part in &parts {
-        area.extend_from_slice(part)?;
-    }
-    Ok(area)
-}
+/// The bits of the free slots of two.
+const ALL_FREE: u8 = 3;
 
 /// The words of a command line without quotes.
 fn words(alloc: Global, line: &str) -> Result<Vec<String>, AllocError> {
@@ -100,190 +30,132 @@ fn words(alloc: Global, line: &str) -> Result<Vec<String>, AllocError> {
     Ok(words)
 }
 
-/// The status of a line over one area, and all that was said.
-fn run(alloc: Global, bytes: Vec<u8>, line: &str) -> Result<(u8, Vec<u8>), AllocError> {
+/// A rig with one area, of the module with the handle 1, in which 4,096 bytes can be said.
+fn rig_of(alloc: Global, area: &[u8]) -> Result<MemoryRig, AllocError> {
     let mut rig = MemoryRig::new(alloc, 4096)?;
-    rig.add(1, bytes)?;
-    let status = run_on(alloc, line, &mut rig)?;
-    Ok((status, rig.said().to_vec(alloc)?))
+    rig.add(1, area.to_vec(alloc)?)?;
+    Ok(rig)
 }
 
-/// The status of a line on a platform whose NFIT has no structures.
-fn run_on(alloc: Global, line: &str, rig: &mut MemoryRig) -> Result<u8, AllocError> {
-    let mut nfit = MemorySource::new(table(alloc, &[])?, Vec::new(alloc));
-    Ok(nd_top(alloc, &words(alloc, line)?, rig, &mut nfit))
+/// Runs a row over an area, on a platform whose NFIT has no structures.
+fn run(rt: &HostRuntime, area: &[u8], row: Row) -> Result<(), Fail> {
+    run_on(rt, &mut rig_of(rt.alloc(), area)?, row)
 }
 
-/// The bytes of an NFIT with these structures. The texts of its header are spaces, and the numbers 0.
-fn table(alloc: Global, structures: &[u8]) -> Result<Vec<u8>, AllocError> {
-    let len = u32::try_from(structures.len())
-        .unwrap_or(u32::MAX)
-        .saturating_add(40);
-    let mut table = Vec::new(alloc);
-    table.extend_from_slice(b"NFIT")?;
-    table.extend_from_slice(&len.to_le_bytes())?;
-    table.extend_from_slice(b"\x01\0              ")?;
-    table.extend_from_slice(&[0; 16])?;
-    table.extend_from_slice(structures)?;
-    let sum = table.iter().fold(0u8, |sum, byte| sum.wrapping_add(*byte));
-    if let Some(checksum) = table.get_mut(9) {
-        *checksum = sum.wrapping_neg();
-    }
-    Ok(table)
+/// Runs a row over a rig, on a platform whose NFIT has no structures.
+fn run_on(rt: &HostRuntime, rig: &mut MemoryRig, row: Row) -> Result<(), Fail> {
+    let alloc = rt.alloc();
+    let mut source = MemorySource::new(nfit(alloc, &[])?, Vec::new(alloc));
+    run_with(rt, rig, &mut source, row)
 }
 
-/// Two modules of 64 GiB in one region of 128 GiB at 0x100000000: an address range, two control regions, the interleave
-/// of every second line of 4,096 bytes, and two mappings.
-fn two_modules(alloc: Global) -> Result<Vec<u8>, AllocError> {
-    let mut range = [0; 56];
-    range[2] = 56;
-    range[4] = 1;
-    range[16..32].copy_from_slice(&PERSISTENT_MEMORY);
-    range[36] = 1;
-    range[44] = 32;
-    let mut control = [0; 32];
-    control[0] = 4;
-    control[2] = 32;
-    control[6] = 0x34;
-    control[7] = 0x12;
-    let mut interleave = [0; 24];
-    interleave[0] = 2;
-    interleave[2] = 24;
-    interleave[4] = 1;
-    interleave[8] = 2;
-    interleave[13] = 0x10;
-    interleave[20] = 2;
-    let mut mapping = [0; 48];
-    mapping[0] = 1;
-    mapping[2] = 48;
-    mapping[4] = 1;
-    mapping[12] = 1;
-    mapping[20] = 16;
-    mapping[40] = 1;
-    mapping[42] = 2;
-    let mut structures = Vec::new(alloc);
-    structures.extend_from_slice(&range)?;
-    for index in [1, 2] {
-        control[4] = index;
-        control[24] = index;
-        structures.extend_from_slice(&control)?;
-    }
-    structures.extend_from_slice(&interleave)?;
-    for index in [1, 2] {
-        mapping[5] = index - 1;
-        mapping[14] = index;
-        mapping[25] = (index - 1) << 4;
-        structures.extend_from_slice(&mapping)?;
-    }
-    Ok(structures)
+fn run_with(
+    rt: &HostRuntime,
+    rig: &mut MemoryRig,
+    source: &mut MemorySource,
+    row: Row,
+) -> Result<(), Fail> {
+    let alloc = rt.alloc();
+    let before = rig.said().len();
+    let status = nd_top(alloc, &words(alloc, row.line)?, rig, source);
+    assert_eq!(rt; status, row.status, "{}", row.line);
+    let said = rig.said().get(before..).ok_or("nothing is taken back")?;
+    assert_eq!(rt; said, row.text.as_bytes(), "{}", row.line);
+    Ok(())
 }
 
-const FREE: [u8; 256] = [0xee; 256];
+/// Whether the area of the module with the handle 1 has these bytes.
+fn expect_area(rt: &HostRuntime, rig: &MemoryRig, bytes: &[u8]) -> Result<(), Fail> {
+    let area = rig.area(1).ok_or("no area")?;
+    assert_eq!(rt; area, bytes);
+    Ok(())
+}
 
-/// Blocks and slots, and the status and the text of `labels . 1`.
+/// The two index blocks of an area of two slots, and what is said of it.
 #[test]
 fn blocks(rt: HostRuntime) -> Result<(), Fail> {
-    let alloc = rt.alloc();
+    let first = |seq| block(false, seq, ALL_FREE);
+    let second = |seq| block(true, seq, ALL_FREE);
+    let uninit = "refused not-ready uninit dimm=0x00000001\n";
+    let foreign = "refused not-ready foreign dimm=0x00000001\n";
     let rows = [
         (
-            block(false, 3, 0),
-            block(true, 2, 0),
+            first(3),
+            second(2),
             0,
             "ok labels=0 slots=2 seq=3 place=0\n",
         ),
         (
-            block(false, 1, 0),
-            block(true, 2, 0),
+            first(1),
+            second(2),
             0,
             "ok labels=0 slots=2 seq=2 place=1\n",
         ),
         (
-            block(false, 2, 0),
-            block(true, 3, 0),
+            first(2),
+            second(3),
             0,
             "ok labels=0 slots=2 seq=3 place=1\n",
         ),
         (
-            block(false, 2, 0),
-            block(true, 1, 0),
+            first(2),
+            second(1),
             0,
             "ok labels=0 slots=2 seq=2 place=0\n",
         ),
         (
-            block(false, 1, 0),
-            block(true, 3, 0),
+            first(1),
+            second(3),
             0,
             "ok labels=0 slots=2 seq=1 place=0\n",
         ),
         (
-            block(false, 3, 0),
-            block(true, 1, 0),
+            first(3),
+            second(1),
             0,
             "ok labels=0 slots=2 seq=1 place=1\n",
         ),
         (
-            block(false, 2, 0),
-            block(true, 2, 0),
+            first(2),
+            second(2),
             0,
             "ok labels=0 slots=2 seq=2 place=1\n",
         ),
         (
-            torn(block(false, 3, 0)),
-            block(true, 2, 0),
+            torn(first(3)),
+            second(2),
             0,
             "ok labels=0 slots=2 seq=2 place=1\n",
         ),
         (
-            block(false, 3, 0),
-            torn(block(true, 1, 0)),
+            first(3),
+            torn(second(1)),
             0,
             "ok labels=0 slots=2 seq=3 place=0\n",
         ),
+        (torn(first(3)), torn(second(2)), 1, uninit),
+        (second(3), first(2), 1, foreign),
+        (old_block(false, 2), ZEROS, 1, foreign),
+        (torn(old_block(false, 2)), ZEROS, 1, uninit),
         (
-            torn(block(false, 3, 0)),
-            torn(block(true, 2, 0)),
-            1,
-            "refused not-ready uninit dimm=0x00000001\n",
-        ),
-        (
-            block(true, 3, 0),
-            block(false, 2, 0),
-            1,
-            "refused not-ready foreign dimm=0x00000001\n",
-        ),
-        (
-            of_version_1_1(block(false, 2, 0)),
-            [0; 256],
-            1,
-            "refused not-ready foreign dimm=0x00000001\n",
-        ),
-        (
-            torn(of_version_1_1(block(false, 2, 0))),
-            [0; 256],
-            1,
-            "refused not-ready uninit dimm=0x00000001\n",
-        ),
-        (
-            of_version_1_1(block(false, 2, 0)),
-            block(true, 3, 0),
+            old_block(false, 2),
+            second(3),
             0,
             "ok labels=0 slots=2 seq=3 place=1\n",
         ),
-        (
-            [0; 256],
-            [0; 256],
-            1,
-            "refused not-ready uninit dimm=0x00000001\n",
-        ),
+        (ZEROS, ZEROS, 1, uninit),
     ];
     for (first, second, status, text) in rows {
-        let answer = run(
-            alloc,
-            area(alloc, [first, second, FREE, FREE])?,
-            "labels . 1",
+        let area = small_area(rt.alloc(), &[first, second, FREE, FREE])?;
+        run(
+            &rt,
+            &area,
+            Row {
+                line: "labels . 1",
+                status,
+                text,
+            },
         )?;
-        assert_eq!(rt; answer.0, status, "{text}");
-        assert_eq!(rt; answer.1.as_slice(), text.as_bytes(), "{text}");
     }
     Ok(())
 }
@@ -309,10 +181,20 @@ fn names(rt: HostRuntime) -> Result<(), Fail> {
         let text = format!(in alloc;
             "  slot=1 uuid=0f6b1a52-7c3e-4d28-9a41-5be0c7d2e813 name={printed} flags=0x00000000 nlabel=1 position=0 cookie=0x0000a3de00001235 dpa=0x0000000000000000 size=4194304\nok labels=1 slots=2 seq=2 place=0\n"
         )?;
-        let parts = [block(false, 2, 2), block(true, 1, 0), FREE, label(1, &name)];
-        let answer = run(alloc, area(alloc, parts)?, "labels . 1")?;
-        assert_eq!(rt; answer.0, 0, "{text}");
-        assert_eq!(rt; answer.1.as_slice(), text.as_bytes());
+        let label = LabelFields { name, ..LABEL }.bytes();
+        let area = small_area(
+            alloc,
+            &[block(false, 2, 1), block(true, 1, ALL_FREE), FREE, label],
+        )?;
+        run(
+            &rt,
+            &area,
+            Row {
+                line: "labels . 1",
+                status: 0,
+                text: text.as_str(),
+            },
+        )?;
     }
     Ok(())
 }
@@ -321,12 +203,23 @@ fn names(rt: HostRuntime) -> Result<(), Fail> {
 #[test]
 fn slots(rt: HostRuntime) -> Result<(), Fail> {
     let alloc = rt.alloc();
-    let mut wrong_checksum = label(0, &name(b"x"));
+    let mut wrong_checksum = LabelFields { slot: 0, ..LABEL }.bytes();
     wrong_checksum[255] ^= 1;
-    let other_slot = label(1, &name(b"x"));
-    let mut greatest = [0xff; 256];
-    LittleEndian::write_u32(&mut greatest[120..], 0);
-    let greatest = with_checksum(greatest, 248);
+    let greatest = LabelFields {
+        uuid: [0xff; 16],
+        name: [0xff; 64],
+        flags: u32::MAX,
+        nlabel: u16::MAX,
+        position: u16::MAX,
+        cookie: u64::MAX,
+        lba_size: u64::MAX,
+        dpa: u64::MAX,
+        raw_size: u64::MAX,
+        slot: 0,
+        alignment: 0xff,
+        type_guid: [0xff; 16],
+        abstraction: [0xff; 16],
+    };
     let greatest_line =
         "  slot=0 uuid=ffffffff-ffff-ffff-ffff-ffffffffffff name=%FF%FF%FF%FF%FF%FF%FF%FF%FF%FF%FF%FF%FF%FF%FF%FF%FF%FF%FF%FF%FF%FF%FF%FF%FF%FF%FF%FF%FF%FF%FF%FF%FF%FF%FF%FF%FF%FF%FF%FF%FF%FF%FF%FF%FF%FF%FF%FF%FF%FF%FF%FF%FF%FF%FF%FF%FF%FF%FF%FF%FF%FF%FF%FF flags=0xffffffff nlabel=65535 position=65535 cookie=0xffffffffffffffff dpa=0xffffffffffffffff size=18446744073709551615\nok labels=1 slots=2 seq=1 place=0\n";
     let zero_line =
@@ -334,225 +227,369 @@ fn slots(rt: HostRuntime) -> Result<(), Fail> {
     let none = "ok labels=0 slots=2 seq=1 place=0\n";
     let rows = [
         (wrong_checksum, none),
-        (other_slot, none),
+        (LABEL.bytes(), none),
         (FREE, none),
-        ([0; 256], zero_line),
-        (greatest, greatest_line),
+        (ZEROS, zero_line),
+        (greatest.bytes(), greatest_line),
     ];
     for (slot, text) in rows {
-        let parts = [block(false, 1, 1), torn(block(true, 2, 0)), slot, FREE];
-        let answer = run(alloc, area(alloc, parts)?, "labels . 1")?;
-        assert_eq!(rt; answer.0, 0, "{text}");
-        assert_eq!(rt; answer.1.as_slice(), text.as_bytes());
+        let area = small_area(
+            alloc,
+            &[
+                block(false, 1, 2),
+                torn(block(true, 2, ALL_FREE)),
+                slot,
+                FREE,
+            ],
+        )?;
+        run(
+            &rt,
+            &area,
+            Row {
+                line: "labels . 1",
+                status: 0,
+                text,
+            },
+        )?;
     }
     Ok(())
 }
 
-/// Words, and sizes of areas, with the status and the text.
+/// Sizes of areas of zeros, and what is said of them.
 #[test]
 fn words_and_sizes(rt: HostRuntime) -> Result<(), Fail> {
     let alloc = rt.alloc();
+    let uninit = "refused not-ready uninit dimm=0x00000001\n";
+    let wrong_size = "refused not-ready wrong-size dimm=0x00000001\n";
     let rows = [
         (
-            "labels . 0x1",
             1024,
-            1,
-            "refused not-ready uninit dimm=0x00000001\n",
+            Row {
+                line: "labels . 0x1",
+                status: 1,
+                text: uninit,
+            },
         ),
         (
-            "-- labels . 1",
             4096,
-            1,
-            "refused not-ready uninit dimm=0x00000001\n",
+            Row {
+                line: "-- labels . 1",
+                status: 1,
+                text: uninit,
+            },
         ),
         (
-            "labels . 1",
             0,
-            1,
-            "refused not-ready wrong-size dimm=0x00000001\n",
+            Row {
+                line: "labels . 1",
+                status: 1,
+                text: wrong_size,
+            },
         ),
         (
-            "labels . 1",
             1000,
-            1,
-            "refused not-ready wrong-size dimm=0x00000001\n",
+            Row {
+                line: "labels . 1",
+                status: 1,
+                text: wrong_size,
+            },
         ),
         (
-            "labels . 1",
             768,
-            1,
-            "refused not-ready wrong-size dimm=0x00000001\n",
+            Row {
+                line: "labels . 1",
+                status: 1,
+                text: wrong_size,
+            },
         ),
         (
-            "labels . 1",
             1_048_832,
-            1,
-            "refused not-ready wrong-size dimm=0x00000001\n",
+            Row {
+                line: "labels . 1",
+                status: 1,
+                text: wrong_size,
+            },
         ),
         (
-            "labels . 4294967295",
             1024,
-            1,
-            "refused not-ready missing dimm=0xffffffff\n",
+            Row {
+                line: "labels . 4294967295",
+                status: 1,
+                text: "refused not-ready missing dimm=0xffffffff\n",
+            },
         ),
-        ("labels . 4294967296", 1024, 2, "error words\n"),
-        ("", 1024, 2, "error words\n"),
-        ("run", 1024, 2, "error words\n"),
+        (
+            1024,
+            Row {
+                line: "labels . 4294967296",
+                status: 2,
+                text: "error words\n",
+            },
+        ),
+        (
+            1024,
+            Row {
+                line: "",
+                status: 2,
+                text: "error words\n",
+            },
+        ),
+        (
+            1024,
+            Row {
+                line: "run",
+                status: 2,
+                text: "error words\n",
+            },
+        ),
     ];
-    for (line, size, status, text) in rows {
-        let answer = run(alloc, vec![in alloc; 0; size]?, line)?;
-        assert_eq!(rt; answer.0, status, "{line}");
-        assert_eq!(rt; answer.1.as_slice(), text.as_bytes(), "{line}");
+    for (size, row) in rows {
+        run(&rt, &vec![in alloc; 0; size]?, row)?;
     }
     let mut rig = MemoryRig::new(alloc, 64)?;
-    let mut nfit = MemorySource::new(Vec::new(alloc), Vec::new(alloc));
-    assert_eq!(rt; nd_top(alloc, &[], &mut rig, &mut nfit), 2);
+    let mut source = MemorySource::new(Vec::new(alloc), Vec::new(alloc));
+    assert_eq!(rt; nd_top(alloc, &[], &mut rig, &mut source), 2);
     assert_eq!(rt; rig.said(), b"error words\n".as_slice());
     Ok(())
 }
 
-/// The calls that fail, the room and the line, with the status, the text, and how often the rig was read.
+/// The calls that fail, the room, how often the rig is read, and what is said.
 #[test]
 fn faults(rt: HostRuntime) -> Result<(), Fail> {
     let alloc = rt.alloc();
     let listing = "ok labels=0 slots=2 seq=3 place=0\n";
-    let rows: [([u64; 2], u64, &str, u8, &str, u64); 12] = [
-        ([9, 9], 64, "labels . 1", 0, listing, 2),
-        (
-            [0, 9],
-            64,
-            "labels . 1",
-            4,
-            "error area dimm=0x00000001\n",
-            1,
-        ),
-        (
-            [1, 9],
-            64,
-            "labels . 1",
-            4,
-            "error area dimm=0x00000001\n",
-            2,
-        ),
-        ([2, 9], 64, "labels . 1", 7, "", 2),
-        ([0, 1], 64, "labels . 1", 7, "", 1),
-        ([1, 2], 64, "labels . 1", 7, "", 2),
-        ([9, 9], 33, "labels . 1", 7, "", 2),
-        ([9, 9], 34, "labels . 1", 0, listing, 2),
+    let first = Row {
+        line: "labels . 1",
+        status: 4,
+        text: "error area dimm=0x00000001\n",
+    };
+    let second = Row {
+        line: "labels . 2",
+        status: 4,
+        text: "error area dimm=0x00000002\n",
+    };
+    let missing = "refused not-ready missing dimm=0x00000002\n";
+    let rows: [([u64; 2], u64, u64, Row); 12] = [
         (
             [9, 9],
             64,
-            "labels . 2",
+            2,
+            Row {
+                status: 0,
+                text: listing,
+                ..first
+            },
+        ),
+        ([0, 9], 64, 1, first),
+        ([1, 9], 64, 2, first),
+        (
+            [2, 9],
+            64,
+            2,
+            Row {
+                status: 7,
+                text: "",
+                ..first
+            },
+        ),
+        (
+            [0, 1],
+            64,
             1,
-            "refused not-ready missing dimm=0x00000002\n",
+            Row {
+                status: 7,
+                text: "",
+                ..first
+            },
+        ),
+        (
+            [1, 2],
+            64,
+            2,
+            Row {
+                status: 7,
+                text: "",
+                ..first
+            },
+        ),
+        (
+            [9, 9],
+            33,
+            2,
+            Row {
+                status: 7,
+                text: "",
+                ..first
+            },
+        ),
+        (
+            [9, 9],
+            34,
+            2,
+            Row {
+                status: 0,
+                text: listing,
+                ..first
+            },
+        ),
+        (
+            [9, 9],
+            64,
             1,
+            Row {
+                status: 1,
+                text: missing,
+                ..second
+            },
+        ),
+        ([0, 9], 64, 1, second),
+        (
+            [1, 9],
+            64,
+            1,
+            Row {
+                status: 7,
+                text: "",
+                ..second
+            },
         ),
         (
             [0, 9],
             64,
-            "labels . 2",
-            4,
-            "error area dimm=0x00000002\n",
-            1,
+            0,
+            Row {
+                line: "labels",
+                status: 7,
+                text: "",
+            },
         ),
-        ([1, 9], 64, "labels . 2", 7, "", 1),
-        ([0, 9], 64, "labels", 7, "", 0),
     ];
-    for (listed, room, line, status, text, reads) in rows {
+    let area = small_area(
+        alloc,
+        &[
+            block(false, 3, ALL_FREE),
+            block(true, 2, ALL_FREE),
+            FREE,
+            FREE,
+        ],
+    )?;
+    for (listed, room, reads, row) in rows {
         let mut rig = MemoryRig::new(alloc, room)?;
-        let parts = [block(false, 3, 0), block(true, 2, 0), FREE, FREE];
-        rig.add(1, area(alloc, parts)?)?;
+        rig.add(1, area.clone()?)?;
         rig.fail_at(listed.to_vec(alloc)?);
-        assert_eq!(rt; run_on(alloc, line, &mut rig)?, status, "{line}");
-        assert_eq!(rt; rig.said(), text.as_bytes(), "{line}");
-        assert_eq!(rt; rig.reads(), reads, "{line}");
-        let kept = rig.area(1).ok_or("no area")?;
-        assert_eq!(rt; kept, area(alloc, parts)?.as_slice());
+        run_on(&rt, &mut rig, row)?;
+        assert_eq!(rt; rig.reads(), reads, "{}", row.line);
+        expect_area(&rt, &rig, &area)?;
     }
     Ok(())
 }
+
+const INITIALISE: Row<'static> = Row {
+    line: "do . init-labels dimm=1",
+    status: 0,
+    text: "ok initialised dimm=0x00000001 slots=2\n",
+};
 
 /// The bytes of an area of two slots that was initialised, with these bytes in its slots.
 fn initialised(alloc: Global, slots: [u8; 256]) -> Result<Vec<u8>, AllocError> {
-    area(alloc, [block(false, 3, 0), block(true, 2, 0), slots, slots])
+    small_area(
+        alloc,
+        &[
+            block(false, 3, ALL_FREE),
+            block(true, 2, ALL_FREE),
+            slots,
+            slots,
+        ],
+    )
 }
 
-/// An area of 1,024 bytes that is initialised, twice, and listed: the lines, with the status and the text.
+/// An area of 1,024 bytes that is initialised, twice, and listed.
 #[test]
 fn initialise(rt: HostRuntime) -> Result<(), Fail> {
     let alloc = rt.alloc();
-    let mut rig = MemoryRig::new(alloc, 4096)?;
-    rig.add(1, area(alloc, [[0; 256]; 4])?)?;
-    rig.add(2, area(alloc, [FREE; 4])?)?;
+    let other = small_area(alloc, &[FREE; 4])?;
+    let mut rig = rig_of(alloc, &small_area(alloc, &[ZEROS; 4])?)?;
+    rig.add(2, other.clone()?)?;
     let rows = [
-        (
-            "do . init-labels dimm=1",
-            0,
-            "ok initialised dimm=0x00000001 slots=2\n",
-        ),
-        (
-            "do . init-labels dimm=0x1",
-            1,
-            "refused already-ready dimm=0x00000001\n",
-        ),
-        ("labels . 1", 0, "ok labels=0 slots=2 seq=3 place=0\n"),
-        ("do . # x", 0, ""),
+        INITIALISE,
+        Row {
+            line: "do . init-labels dimm=0x1",
+            status: 1,
+            text: "refused already-ready dimm=0x00000001\n",
+        },
+        Row {
+            line: "labels . 1",
+            status: 0,
+            text: "ok labels=0 slots=2 seq=3 place=0\n",
+        },
+        Row {
+            line: "do . # x",
+            status: 0,
+            text: "",
+        },
     ];
-    let checksum = LittleEndian::read_u64(&block(false, 3, 0)[64..]);
-    assert_eq!(rt; checksum, 0x279383A7D8323A33);
-    let mut said = String::new(alloc);
-    for (line, status, text) in rows {
-        said.push_str(text)?;
-        assert_eq!(rt; run_on(alloc, line, &mut rig)?, status, "{line}");
-        assert_eq!(rt; rig.said(), said.as_bytes(), "{line}");
-        let bytes = rig.area(1).ok_or("no area")?;
-        assert_eq!(rt; bytes, initialised(alloc, [0; 256])?.as_slice(), "{line}");
-        let other = rig.area(2).ok_or("no area")?;
-        assert_eq!(rt; other, area(alloc, [FREE; 4])?.as_slice(), "{line}");
+    let checksum = [0x33, 0x3a, 0x32, 0xd8, 0xa7, 0x83, 0x93, 0x27];
+    assert_eq!(rt;
+        block(false, 3, ALL_FREE).get(64..72),
+        Some(checksum.as_slice())
+    );
+    for row in rows {
+        run_on(&rt, &mut rig, row)?;
+        expect_area(&rt, &rig, &initialised(alloc, ZEROS)?)?;
+        assert_eq!(rt; rig.area(2).ok_or("no area")?, other.as_slice());
     }
     Ok(())
 }
 
-/// Areas that are not initialised, with the text. Their bytes stay as they are.
+/// Areas that are not initialised. Their bytes stay as they are.
 #[test]
 fn not_initialised(rt: HostRuntime) -> Result<(), Fail> {
     let alloc = rt.alloc();
-    let ready = block(true, 3, 0);
-    let old = of_version_1_1(block(false, 2, 0));
+    let ready = block(true, 3, ALL_FREE);
+    let refused = Row {
+        status: 1,
+        ..INITIALISE
+    };
     let rows = [
         (
-            "do . init-labels dimm=1",
-            area(alloc, [FREE, ready, FREE, FREE])?,
-            "refused already-ready dimm=0x00000001\n",
+            small_area(alloc, &[FREE, ready, FREE, FREE])?,
+            Row {
+                text: "refused already-ready dimm=0x00000001\n",
+                ..refused
+            },
         ),
         (
-            "do . init-labels dimm=1",
-            area(alloc, [old, FREE, FREE, FREE])?,
-            "refused not-ready foreign dimm=0x00000001\n",
+            small_area(alloc, &[old_block(false, 2), FREE, FREE, FREE])?,
+            Row {
+                text: "refused not-ready foreign dimm=0x00000001\n",
+                ..refused
+            },
         ),
         (
-            "do . init-labels dimm=1",
             vec![in alloc; 7; 1000]?,
-            "refused not-ready wrong-size dimm=0x00000001\n",
+            Row {
+                text: "refused not-ready wrong-size dimm=0x00000001\n",
+                ..refused
+            },
         ),
         (
-            "do . init-labels dimm=0x101",
-            area(alloc, [[0; 256]; 4])?,
-            "refused not-ready missing dimm=0x00000101\n",
+            small_area(alloc, &[ZEROS; 4])?,
+            Row {
+                line: "do . init-labels dimm=0x101",
+                status: 1,
+                text: "refused not-ready missing dimm=0x00000101\n",
+            },
         ),
     ];
-    for (line, bytes, text) in rows {
-        let mut rig = MemoryRig::new(alloc, 4096)?;
-        rig.add(1, bytes.clone()?)?;
-        assert_eq!(rt; run_on(alloc, line, &mut rig)?, 1, "{text}");
-        assert_eq!(rt; rig.said(), text.as_bytes());
-        let kept = rig.area(1).ok_or("no area")?;
-        assert_eq!(rt; kept, bytes.as_slice(), "{text}");
+    for (bytes, row) in rows {
+        let mut rig = rig_of(alloc, &bytes)?;
+        run_on(&rt, &mut rig, row)?;
+        expect_area(&rt, &rig, &bytes)?;
     }
     Ok(())
 }
 
-/// Lines that ask for nothing of the rig, with the status and the text.
+/// Lines that ask for nothing of the rig.
 #[test]
 fn lines(rt: HostRuntime) -> Result<(), Fail> {
     let alloc = rt.alloc();
@@ -584,61 +621,76 @@ fn lines(rt: HostRuntime) -> Result<(), Fail> {
         ("do", 2, "error words\n"),
     ];
     for (line, status, text) in rows {
-        let answer = run(alloc, vec![in alloc; 0; 1024]?, line)?;
-        assert_eq!(rt; answer.0, status, "{line}");
-        assert_eq!(rt; answer.1.as_slice(), text.as_bytes(), "{line}");
+        run(&rt, &vec![in alloc; 0; 1024]?, Row { line, status, text })?;
     }
     let mut long = String::from_str(alloc, "do . #")?;
     for _ in 1..4096 {
         long.push('x')?;
     }
-    assert_eq!(rt; run(alloc, Vec::new(alloc), &long)?.0, 0);
+    run(
+        &rt,
+        &[],
+        Row {
+            line: long.as_str(),
+            status: 0,
+            text: "",
+        },
+    )?;
     long.push('x')?;
-    let answer = run(alloc, Vec::new(alloc), &long)?;
-    assert_eq!(rt; answer.0, 1);
-    assert_eq!(rt; answer.1.as_slice(), b"refused words too-long\n".as_slice());
-    Ok(())
+    run(
+        &rt,
+        &[],
+        Row {
+            line: long.as_str(),
+            status: 1,
+            text: "refused words too-long\n",
+        },
+    )
 }
 
-/// The call that fails while an area is initialised, with the status, the text, and which of the two index blocks are
-/// written then. The calls are the area's size, three reads, two writes, and the reply.
+/// The call that fails while an area is initialised, and which of the two index blocks are written then. The calls are the
+/// area's size, three reads, two writes, and the reply.
 #[test]
 fn faults_of_init(rt: HostRuntime) -> Result<(), Fail> {
     let alloc = rt.alloc();
-    let failed = "error area dimm=0x00000001\n";
+    let failed = Row {
+        status: 4,
+        text: "error area dimm=0x00000001\n",
+        ..INITIALISE
+    };
     let rows = [
-        (0, 4, failed, [false, false]),
-        (1, 4, failed, [false, false]),
-        (2, 4, failed, [false, false]),
-        (3, 4, failed, [false, false]),
-        (4, 4, failed, [false, false]),
-        (5, 4, failed, [true, false]),
-        (6, 7, "", [true, true]),
+        (0, failed, [false, false]),
+        (1, failed, [false, false]),
+        (2, failed, [false, false]),
+        (3, failed, [false, false]),
+        (4, failed, [false, false]),
+        (5, failed, [true, false]),
         (
-            7,
-            0,
-            "ok initialised dimm=0x00000001 slots=2\n",
+            6,
+            Row {
+                status: 7,
+                text: "",
+                ..INITIALISE
+            },
             [true, true],
         ),
+        (7, INITIALISE, [true, true]),
     ];
-    for (call, status, text, written) in rows {
-        let mut rig = MemoryRig::new(alloc, 64)?;
-        rig.add(1, area(alloc, [FREE; 4])?)?;
+    for (call, row, written) in rows {
+        let mut rig = rig_of(alloc, &small_area(alloc, &[FREE; 4])?)?;
         rig.fail_at(vec![in alloc; call]?);
-        assert_eq!(rt;
-            run_on(alloc, "do . init-labels dimm=1", &mut rig)?,
-            status,
-            "{call}"
-        );
-        assert_eq!(rt; rig.said(), text.as_bytes(), "{call}");
-        let first = if written[0] { block(false, 3, 0) } else { FREE };
-        let second = if written[1] { block(true, 2, 0) } else { FREE };
-        let left = rig.area(1).ok_or("no area")?;
-        assert_eq!(rt;
-            left,
-            area(alloc, [first, second, FREE, FREE])?.as_slice(),
-            "{call}"
-        );
+        run_on(&rt, &mut rig, row)?;
+        let first = if written[0] {
+            block(false, 3, ALL_FREE)
+        } else {
+            FREE
+        };
+        let second = if written[1] {
+            block(true, 2, ALL_FREE)
+        } else {
+            FREE
+        };
+        expect_area(&rt, &rig, &small_area(alloc, &[first, second, FREE, FREE])?)?;
     }
     Ok(())
 }
@@ -649,18 +701,26 @@ fn nothing_said(rt: HostRuntime) -> Result<(), Fail> {
     let alloc = rt.alloc();
     let mut rig = MemoryRig::new(alloc, 0)?;
     rig.fail_at(vec![in alloc; 0]?);
-    assert_eq!(rt; run_on(alloc, "do . # x", &mut rig)?, 0);
+    run_on(
+        &rt,
+        &mut rig,
+        Row {
+            line: "do . # x",
+            status: 0,
+            text: "",
+        },
+    )?;
     assert_eq!(rt; rig.say_faults(), 0);
     Ok(())
 }
 
-/// The bytes of an NFIT, with the status and the text of a line that would initialise an area. Where it is refused, the
-/// area stays as it is.
+/// The bytes of an NFIT, and what is said of a line that would initialise an area. Where it is refused, the area stays as
+/// it is.
 #[test]
 fn tables(rt: HostRuntime) -> Result<(), Fail> {
     let alloc = rt.alloc();
     let structures = two_modules(alloc)?;
-    let whole = table(alloc, &structures)?;
+    let whole = nfit(alloc, &structures)?;
     assert_eq!(rt; whole.len(), 280);
     let mut short = whole.clone()?;
     short.truncate(39);
@@ -672,125 +732,125 @@ fn tables(rt: HostRuntime) -> Result<(), Fail> {
     other_revision[8] = 2;
     let mut twice = structures.clone()?;
     twice.extend_from_slice(&structures)?;
-    let accepted = "ok initialised dimm=0x00000001 slots=2\n";
     let rows = [
-        (whole.clone()?, 0, accepted),
-        (table(alloc, &[])?, 0, accepted),
-        (table(alloc, &[9, 0, 6, 0, 1, 2])?, 0, accepted),
-        (short, 3, "error nfit short length=39\n"),
-        (Vec::new(alloc), 3, "error nfit short length=0\n"),
-        (vec![in alloc; 0; 40]?, 3, "error nfit signature\n"),
-        (cut, 3, "error nfit length told=280 length=279\n"),
-        (other_revision, 3, "error nfit revision value=2\n"),
-        (raised, 3, "error nfit checksum sum=1\n"),
-        (table(alloc, &[0; 4])?, 3, "error nfit structure at=40\n"),
+        (whole.clone()?, ""),
+        (nfit(alloc, &[])?, ""),
+        (nfit(alloc, &[9, 0, 6, 0, 1, 2])?, ""),
+        (short, "error nfit short length=39\n"),
+        (Vec::new(alloc), "error nfit short length=0\n"),
+        (vec![in alloc; 0; 40]?, "error nfit signature\n"),
+        (cut, "error nfit length told=280 length=279\n"),
+        (other_revision, "error nfit revision value=2\n"),
+        (raised, "error nfit checksum sum=1\n"),
+        (nfit(alloc, &[0; 4])?, "error nfit structure at=40\n"),
         (
-            table(alloc, &twice)?,
-            3,
+            nfit(alloc, &twice)?,
             "error nfit twice-index kind=0 index=1\n",
         ),
     ];
-    for (bytes, status, text) in rows {
-        let mut rig = MemoryRig::new(alloc, 64)?;
-        rig.add(1, area(alloc, [[0; 256]; 4])?)?;
-        let mut nfit = MemorySource::new(bytes, Vec::new(alloc));
-        let words = words(alloc, "do . init-labels dimm=1")?;
-        assert_eq!(rt;
-            nd_top(alloc, &words, &mut rig, &mut nfit),
-            status,
-            "{text}"
-        );
-        assert_eq!(rt; rig.said(), text.as_bytes());
-        let left = rig.area(1).ok_or("no area")?;
-        let expected = if status == 0 {
-            initialised(alloc, [0; 256])?
+    for (bytes, refused) in rows {
+        let mut rig = rig_of(alloc, &small_area(alloc, &[ZEROS; 4])?)?;
+        let mut source = MemorySource::new(bytes, Vec::new(alloc));
+        if refused.is_empty() {
+            run_with(&rt, &mut rig, &mut source, INITIALISE)?;
+            expect_area(&rt, &rig, &initialised(alloc, ZEROS)?)?;
         } else {
-            area(alloc, [[0; 256]; 4])?
-        };
-        assert_eq!(rt; left, expected.as_slice(), "{text}");
+            run_with(
+                &rt,
+                &mut rig,
+                &mut source,
+                Row {
+                    status: 3,
+                    text: refused,
+                    ..INITIALISE
+                },
+            )?;
+            expect_area(&rt, &rig, &small_area(alloc, &[ZEROS; 4])?)?;
+        }
     }
     Ok(())
 }
 
-/// How many ranges of persistent memory, or modules, an NFIT has, and what is said of it.
-#[test]
-fn too_many(rt: HostRuntime) -> Result<(), Fail> {
-    let alloc = rt.alloc();
-    let rows = [
-        (64, 64, "ok initialised dimm=0x00000001 slots=2\n"),
-        (65, 64, "error nfit too-many kind=0\n"),
-        (64, 65, "error nfit too-many kind=1\n"),
-        (65, 65, "error nfit too-many kind=0\n"),
-    ];
-    for (ranges, modules, text) in rows {
-        let mut range = [0; 56];
-        range[2] = 56;
-        range[16..32].copy_from_slice(&PERSISTENT_MEMORY);
-        let mut mapping = [0; 48];
-        mapping[0] = 1;
-        mapping[2] = 48;
-        let mut bytes = Vec::new(alloc);
-        for index in 1..=ranges {
-            range[4] = index;
-            bytes.extend_from_slice(&range)?;
-        }
-        for handle in 1..=modules {
-            mapping[4] = handle;
-            bytes.extend_from_slice(&mapping)?;
-        }
-        let mut rig = MemoryRig::new(alloc, 64)?;
-        rig.add(1, area(alloc, [[0; 256]; 4])?)?;
-        let bytes = table(alloc, &bytes)?;
-        let mut nfit = MemorySource::new(bytes, Vec::new(alloc));
-        nd_top(
-            alloc,
-            &words(alloc, "do . init-labels dimm=1")?,
-            &mut rig,
-            &mut nfit,
-        );
-        assert_eq!(rt; rig.said(), text.as_bytes());
-    }
-    Ok(())
-}
-
-/// The read of the source that fails, the call of the rig that fails, and the line, with the status and the text. The NFIT
-/// has 280 bytes, which are read by two calls.
+/// The read of the source that fails, the call of the rig that fails, how often the source failed, and what is said. The
+/// NFIT has 280 bytes, which are read by two calls.
 #[test]
 fn faults_of_the_source(rt: HostRuntime) -> Result<(), Fail> {
     let alloc = rt.alloc();
-    let line = "do . init-labels dimm=1";
+    let failed = Row {
+        status: 5,
+        text: "error source nfit\n",
+        ..INITIALISE
+    };
     let rows = [
-        (line, 0, 9, 5, "error source nfit\n", 1),
-        (line, 1, 9, 5, "error source nfit\n", 1),
-        (line, 0, 0, 7, "", 1),
-        (line, 2, 9, 0, "ok initialised dimm=0x00000001 slots=2\n", 0),
-        (line, 2, 0, 4, "error area dimm=0x00000001\n", 0),
-        ("do . # x", 0, 9, 5, "error source nfit\n", 1),
-        ("do . x", 1, 9, 5, "error source nfit\n", 1),
-        ("do .", 0, 9, 2, "error words\n", 0),
+        (0, 9, 1, failed),
+        (1, 9, 1, failed),
         (
-            "labels . 1",
+            0,
+            0,
+            1,
+            Row {
+                status: 7,
+                text: "",
+                ..INITIALISE
+            },
+        ),
+        (2, 9, 0, INITIALISE),
+        (
+            2,
+            0,
+            0,
+            Row {
+                status: 4,
+                text: "error area dimm=0x00000001\n",
+                ..INITIALISE
+            },
+        ),
+        (
             0,
             9,
             1,
-            "refused not-ready uninit dimm=0x00000001\n",
+            Row {
+                line: "do . # x",
+                ..failed
+            },
+        ),
+        (
+            1,
+            9,
+            1,
+            Row {
+                line: "do . x",
+                ..failed
+            },
+        ),
+        (
             0,
+            9,
+            0,
+            Row {
+                line: "do .",
+                status: 2,
+                text: "error words\n",
+            },
+        ),
+        (
+            0,
+            9,
+            0,
+            Row {
+                line: "labels . 1",
+                status: 1,
+                text: "refused not-ready uninit dimm=0x00000001\n",
+            },
         ),
     ];
-    for (line, read, call, status, text, faults) in rows {
-        let mut rig = MemoryRig::new(alloc, 64)?;
-        rig.add(1, area(alloc, [[0; 256]; 4])?)?;
+    for (read, call, faults, row) in rows {
+        let mut rig = rig_of(alloc, &small_area(alloc, &[ZEROS; 4])?)?;
         rig.fail_at(vec![in alloc; call]?);
-        let bytes = table(alloc, &two_modules(alloc)?)?;
-        let mut nfit = MemorySource::new(bytes, vec![in alloc; read]?);
-        let words = words(alloc, line)?;
-        assert_eq!(rt;
-            nd_top(alloc, &words, &mut rig, &mut nfit),
-            status,
-            "{line} {read}"
-        );
-        assert_eq!(rt; rig.said(), text.as_bytes());
-        assert_eq!(rt; nfit.faults(), faults, "{line} {read}");
+        let bytes = nfit(alloc, &two_modules(alloc)?)?;
+        let mut source = MemorySource::new(bytes, vec![in alloc; read]?);
+        run_with(&rt, &mut rig, &mut source, row)?;
+        assert_eq!(rt; source.faults(), faults, "{}", row.line);
     }
     Ok(())
 }
@@ -799,21 +859,27 @@ fn faults_of_the_source(rt: HostRuntime) -> Result<(), Fail> {
 #[test]
 fn limit_of_the_source(rt: HostRuntime) -> Result<(), Fail> {
     let alloc = rt.alloc();
+    let limit = Row {
+        status: 5,
+        text: "error limit nfit\n",
+        ..INITIALISE
+    };
     let rows = [
-        (1_048_576, 3, "error nfit signature\n"),
-        (1_048_577, 5, "error limit nfit\n"),
-        (1_100_000, 5, "error limit nfit\n"),
+        (
+            1_048_576,
+            Row {
+                status: 3,
+                text: "error nfit signature\n",
+                ..INITIALISE
+            },
+        ),
+        (1_048_577, limit),
+        (1_100_000, limit),
     ];
-    for (size, status, text) in rows {
+    for (size, row) in rows {
         let mut rig = MemoryRig::new(alloc, 64)?;
-        let mut nfit = MemorySource::new(vec![in alloc; 0; size]?, Vec::new(alloc));
-        let words = words(alloc, "do . init-labels dimm=1")?;
-        assert_eq!(rt;
-            nd_top(alloc, &words, &mut rig, &mut nfit),
-            status,
-            "{size}"
-        );
-        assert_eq!(rt; rig.said(), text.as_bytes());
+        let mut source = MemorySource::new(vec![in alloc; 0; size]?, Vec::new(alloc));
+        run_with(&rt, &mut rig, &mut source, row)?;
     }
     Ok(())
 }

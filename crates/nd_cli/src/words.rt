@@ -1,6 +1,6 @@
 //! The words of a command line.
 
-ghost use Rattle.std.specs.Prelude.{◌≡◌, ◌^◌, ◌++◌, ◌≤◌, IfOk, slice_get};
+ghost use Rattle.std.specs.Prelude.{◌≡◌, ◌^◌, ◌++◌, ◌≤◌, IfOk, IsErr, IsSome, slice_get};
 ghost use Rattle.std.specs.Option.{option_copied, option_map};
 ghost use Rattle.std.specs.List.{after_first, before_first};
 ghost use Rattle.std.specs.String.{string_bytes};
@@ -27,7 +27,8 @@ enum Form {
 impl Request {
     /// What the words ask for, and `None` exactly where they are no form.
     pub fn of(alloc: Global, words: &[String]) -> Result<Option<Request>, AllocError>
-        ensures { IfOk result (λ request. option_map asked_in request ≡ asked words.now) }
+        ensures request { IfOk result (λ request. option_map asked_in request ≡ asked words.now) }
+        ensures memory { IsErr result → IsSome (asked words.now) }
     {
         let (front, back) = around_dashes(words);
         match form_in(front, back) {

@@ -1,8 +1,8 @@
-use Rattle.std.proofs.Common.{◌≡◌, ◌++◌, false, sym, ◌∙◌, rules, tests}
+use Rattle.std.proofs.Common.{sym, ◌∙◌, rules, tests}
 use Rattle.std.proofs.lemmas.Bool.{cond-false}
 use Rattle.std.proofs.lemmas.Iterator.{YieldsList-from_slice}
 use Rattle.std.proofs.lemmas.Iterator.Search.{any_from_yields_List}
-use Rattle.nd_cli.specs.Words.{is_option, operands_form}
+use Rattle.nd_cli.specs.Words.{is_option}
 use Rattle.nd_cli.proofs.words.form_in.Goals as goal
 
 pub returns : goal.returns

@@ -1,0 +1,96 @@
+-- The form `labels` on an area that is not Ready, and the replies to `init-labels`.
+use Rattle.std.proofs.Common.{◌≡◌, ◌≢◌, ℕ, true, false, List, Option, Some, None, Ok, Err, length, refl, sym, ap, ◌∙◌, subst}
+use Rattle.std.specs.FinMap.{get}
+use Rattle.std.specs.Option.{option_and_then}
+use Rattle.std.specs.Prelude.{IfSome}
+use Rattle.rig_trait.specs.declared.shown.Shown.{Ghosts}
+use Rattle.rig_trait.specs.Areas.{Areas}
+use Rattle.rig_trait.specs.Frames.{FailsAt, IsTold, Reads, WritesTo}
+use Rattle.index_block.specs.declared.geometry.Geometry.{Geometry}
+use Rattle.index_block.specs.Geometry.{geometry_of}
+use Rattle.module_labels.specs.declared.kind.AreaKind.{AreaKind}
+use Rattle.module_labels.specs.declared.kind.AreaKind.TheVariants.{Ready, Uninit}
+use Rattle.label_area.specs.declared.blocks.Current.{Current}
+use Rattle.label_area.specs.declared.load.AreaFault.{AreaFault}
+use Rattle.label_area.specs.declared.load.AreaFault.TheVariants as load
+use Rattle.label_area.specs.Blocks.{current_block, current_in}
+use Rattle.label_area.specs.Faults.{is_load_failed, load_kind}
+use Rattle.label_area.specs.Inits.{initialised, slots_of}
+use Rattle.label_area.specs.LoadedAreas.{LoadedArea}
+use Rattle.label_area.specs.Loads.{Loads}
+use Rattle.label_area.specs.Modules.{area_kind}
+use Rattle.label_area.proofs.Shown.{ready_is}
+use Rattle.nd_cli.specs.declared.lines.Command.TheVariants.{InitLabels}
+use Rattle.nd_cli.specs.declared.replies.Refusal.TheVariants.{NotReady}
+use Rattle.nd_cli.specs.Answers.{init_answer_at, labels_answer, line_answer, listing_answer, refused}
+use Rattle.nd_cli.specs.Lines.{command_in}
+use Rattle.nd_cli.specs.Outcomes.{Does, Replies}
+use Rattle.nd_cli.specs.Stops.{WritesOnly, module_in}
+use Rattle.nd_cli.specs.Texts.{initialised_line, refusal_text}
+use Rattle.nd_cli.specs.Words.{LabelsOf, Line}
+use Rattle.nd_cli.proofs.Unsaid.{WritesOnly-init, WritesOnly-same}
+
+-- an area that is not Ready has no current block
+current_block-none : (stored : Option (List ℕ)) → area_kind stored ≢ Ready → current_block stored ≡ None
+current_block-none None other = refl
+current_block-none (Some bytes) other = by_layout (geometry_of (length bytes) 256) refl
+  where
+    by_current : (g : Geometry) → geometry_of (length bytes) 256 ≡ Some g → (current : Option Current) → current_in g bytes ≡ current → current ≡ None
+    by_current g found None is = refl
+    by_current g found (Some current) is = absurd (other (ready_is bytes g found current is))
+
+    by_layout : (layout : Option Geometry) → geometry_of (length bytes) 256 ≡ layout → option_and_then (λ g. current_in g bytes) layout ≡ None
+    by_layout None found = refl
+    by_layout (Some g) found = by_current g found (current_in g bytes) refl
+
+-- a fault that tells the kind of an area tells another than Ready, and the rig did not fail
+not_ready : (fault : AreaFault) (kind : AreaKind) → Some kind ≡ load_kind fault → kind ≢ Ready
+not_ready load.Missing kind is ready = cc
+not_ready load.WrongSize kind is ready = cc
+not_ready load.Uninit kind is ready = cc
+not_ready load.Foreign kind is ready = cc
+not_ready load.Failed kind is ready = cc
+not_ready load.Memory kind is ready = cc
+
+not_failed : (T : Type 0) (fault : AreaFault) (kind : AreaKind) → Some kind ≡ load_kind fault → is_load_failed {T = T} (Err fault) ≡ false
+not_failed T load.Missing kind is = refl
+not_failed T load.WrongSize kind is = refl
+not_failed T load.Uninit kind is = refl
+not_failed T load.Foreign kind is = refl
+not_failed T load.Failed kind is = absurd cc
+not_failed T load.Memory kind is = refl
+
+module _ (dimm : ℕ) (areas : Areas) (kind : AreaKind) (is : area_kind (get areas dimm) ≡ kind) (other : kind ≢ Ready) where
+  -- it is refused with its kind
+  labels_answer-refused : labels_answer dimm areas ≡ refused (NotReady dimm kind) areas
+  labels_answer-refused =
+      ap (listing_answer dimm areas) (current_block-none (get areas dimm) (λ ready. other (sym is ∙ ready)))
+      ∙ ap (λ k. refused (NotReady dimm k) areas) is
+
+module _ {R : Type 0} (m : Ghosts R) (dimm : ℕ) (old new : R) where
+  pub labels_refused : (fault : AreaFault) (kind : AreaKind) → Some kind ≡ load_kind fault → (IsTold m old → Loads dimm (m.areas old) (Err fault))
+      → FailsAt dimm m old new (is_load_failed {T = LoadedArea} (Err fault)) → Reads m old new → Does m (LabelsOf dimm) old new (Replies false (refusal_text (NotReady dimm kind)))
+  labels_refused fault kind is loaded fails read = record {
+    done = tt;
+    faults = record { faults = rw (not_failed LoadedArea fault kind is) at fails.faults; names = λ other named. cc };
+    answered = λ told.
+        let kind_is : area_kind (get (m.areas old) dimm) ≡ kind = subst (λ found. IfSome found (λ k. area_kind (get (m.areas old) dimm) ≡ k)) (sym is) (loaded told) in
+        labels_answer-refused dimm (m.areas old) kind kind_is (not_ready fault kind is) ∙ ap (refused (NotReady dimm kind)) (sym read.areas);
+    written = λ told. WritesOnly-same None (m.areas old) (m.areas new) read.areas;
+  }
+
+  pub init_accepted : (slots : ℕ) (line : List ℕ) → command_in line ≡ Ok (Some (InitLabels dimm)) → FailsAt dimm m old new false
+      → (IsTold m old → (area_kind (get (m.areas old) dimm) ≡ Uninit) × (slots ≡ slots_of (get (m.areas old) dimm)))
+      → (IsTold m old → m.areas new ≡ initialised dimm (m.areas old)) → WritesTo dimm m old new
+      → (IsTold m old → area_kind (get (m.areas old) dimm) ≢ Uninit → m.areas new ≡ m.areas old) → Does m (Line line) old new (Replies true (initialised_line dimm slots))
+  init_accepted slots line is fails answer written writes kept = record {
+    done = rw is tt;
+    faults = record { faults = fails.faults; names = λ other named. cc };
+    answered = λ told.
+        let areas = m.areas old in
+        ap (λ command. line_answer command areas) is
+        ∙ ap (λ kind. init_answer_at kind dimm areas) (answer told).0
+        ∙ ap (λ (n : ℕ). record { accepted = true; text = initialised_line dimm n; areas = initialised dimm areas }) (sym (answer told).1)
+        ∙ ap (λ (now : Areas). record { accepted = true; text = initialised_line dimm slots; areas = now }) (sym (written told));
+    written = λ told. subst (λ named. WritesOnly named (m.areas old) (m.areas new)) (sym (ap module_in is)) (WritesOnly-init dimm (m.areas old) (m.areas new) (writes.others told) (kept told));
+  }
