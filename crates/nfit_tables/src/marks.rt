@@ -11,7 +11,7 @@ const INDICES: usize = 65_536;
 
 /// Which indices were seen, of each type that has them.
 #[derive(Drop)]
-pub(crate) struct Seen {
+pub(crate) struct IndexMarks {
     ranges: Vec<bool>,
     interleaves: Vec<bool>,
     controls: Vec<bool>,
@@ -20,18 +20,18 @@ pub(crate) struct Seen {
     ghost controls_len: { vec_len controls ≡ 65536 },
 }
 
-impl Seen {
+impl IndexMarks {
     ghost use Rattle.nfit_tables.specs.Proper.{is_same_name};
-    ghost use Rattle.nfit_tables.specs.Seen.{is_indexed, Knows};
+    ghost use Rattle.nfit_tables.specs.Marks.{is_indexed, Knows};
 
     /// No index was seen.
-    pub(crate) fn new(alloc: Global) -> Result<Seen, AllocError>
+    pub(crate) fn new(alloc: Global) -> Result<IndexMarks, AllocError>
         ensures { IfOk result (λ seen. Knows seen []) }
     {
         let ranges = vec![in alloc; false; INDICES]?;
         let interleaves = vec![in alloc; false; INDICES]?;
         let controls = vec![in alloc; false; INDICES]?;
-        Ok(Seen {
+        Ok(IndexMarks {
             ranges,
             interleaves,
             controls,

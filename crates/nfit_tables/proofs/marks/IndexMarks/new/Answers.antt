@@ -1,5 +1,5 @@
 use Rattle.std.proofs.lemmas.List.{get_or-replicate}
-use Rattle.nfit_tables.proofs.seen.Seen.new.Goals as goal
+use Rattle.nfit_tables.proofs.marks.IndexMarks.new.Goals as goal
 
 pub returns : goal.returns
 returns c = record {
