@@ -5,7 +5,7 @@ use Rattle.std.proofs.lemmas.List.Sums.{sum_by-append, sum_by_push}
 use Rattle.byteorder.specs.Endian.{little_bytes}
 use Rattle.nfit_tables.specs.declared.pieces.Header.{Header}
 use Rattle.nfit_tables.specs.declared.pieces.Nfit.{Nfit}
-use Rattle.nfit_tables.specs.Spelling.{header_with, length_of, spellings, text_with, checksum_of, text}
+use Rattle.nfit_tables.specs.Spelling.{header_with, length_of, spellings, text_with, checksum_byte, text}
 
 -- xs sum to n more than ys
 pub record SumsTo (n : ℕ) (xs ys : List ℕ) : Type 0 where
@@ -36,5 +36,5 @@ the_byte others checksum none lt = omega arith
 pub text_is : (bytes : List ℕ) (checksum : ℕ) (n : Nfit) → bytes ≡ text_with checksum n → checksum < 256 → sum bytes % 256 ≡ 0 → bytes ≡ text n
 text_is bytes checksum n is lt none =
     let sums : sum bytes ≡ sum (text_with 0 n) + checksum = ap sum is ∙ text_sums checksum n in
-    let e : checksum ≡ checksum_of n = the_byte (sum (text_with 0 n)) checksum (ap (λ (s : ℕ). s % 256) (sym sums) ∙ none) lt in
+    let e : checksum ≡ checksum_byte n = the_byte (sum (text_with 0 n)) checksum (ap (λ (s : ℕ). s % 256) (sym sums) ∙ none) lt in
     is ∙ ap (λ (c : ℕ). text_with c n) e

@@ -8,7 +8,7 @@ use Rattle.byteorder.specs.Numbers.{little_number-reads_back}
 use Rattle.byte_ranges.specs.Ranges.{number_at, range}
 use Rattle.nfit_tables.specs.declared.pieces.Header.{Header}
 use Rattle.nfit_tables.specs.declared.pieces.Nfit.{Nfit}
-use Rattle.nfit_tables.specs.Spelling.{header_with, spellings, length_of, checksum_of, text}
+use Rattle.nfit_tables.specs.Spelling.{header_with, spellings, length_of, checksum_byte, text}
 use Rattle.nfit_tables.specs.Proper.{FitsHeader}
 use Rattle.nfit_tables.specs.Reading.{header_in}
 
@@ -105,7 +105,7 @@ made_up byte front behind is = omega arith
 -- all bytes of a table sum to 0 modulo 256
 pub sum-text : (n : Nfit) → sum (text n) % 256 ≡ 0
 sum-text n =
-    let one = sum-header (checksum_of n) (length_of n) n.header (spellings n.pieces) in
+    let one = sum-header (checksum_byte n) (length_of n) n.header (spellings n.pieces) in
     let none = sum-header 0 (length_of n) n.header (spellings n.pieces) in
-    let byte : checksum_of n ≡ (256 - (sum (front (length_of n)) + (0 + sum (behind n.header (spellings n.pieces)))) % 256) % 256 = ap (λ (s : ℕ). (256 - s % 256) % 256) none in
-    ap (λ (s : ℕ). s % 256) one ∙ made_up (checksum_of n) (sum (front (length_of n))) (sum (behind n.header (spellings n.pieces))) byte
+    let byte : checksum_byte n ≡ (256 - (sum (front (length_of n)) + (0 + sum (behind n.header (spellings n.pieces)))) % 256) % 256 = ap (λ (s : ℕ). (256 - s % 256) % 256) none in
+    ap (λ (s : ℕ). s % 256) one ∙ made_up (checksum_byte n) (sum (front (length_of n))) (sum (behind n.header (spellings n.pieces))) byte

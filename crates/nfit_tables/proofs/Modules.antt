@@ -5,7 +5,7 @@ use Rattle.std.specs.List.{list_any}
 use Rattle.std.proofs.lemmas.List.Folds.{list_any-append}
 use Rattle.std.proofs.lemmas.Bool.{eq-eqb, eqb-false, eqb-true, ne_eqb}
 use Rattle.nfit_tables.specs.Proper.{distinct}
-use Rattle.nfit_tables.specs.Seen.{with_new}
+use Rattle.nfit_tables.specs.Marks.{with_new}
 
 -- a number that is not among earlier ones
 abbrev pub is_new : List ℕ → ℕ → Bool

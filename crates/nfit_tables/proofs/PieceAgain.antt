@@ -7,7 +7,7 @@ use Rattle.byte_ranges.specs.Ranges.{number_at}
 use Rattle.nfit_tables.specs.declared.pieces.KeptPiece.{KeptPiece}
 use Rattle.nfit_tables.specs.declared.pieces.Piece.{Piece}
 use Rattle.nfit_tables.specs.declared.pieces.Piece.TheVariants.{Range, Mapping, Interleave, Control, Kept}
-use Rattle.nfit_tables.specs.Spelling.{kind_of, spelling, range_fields, mapping_fields, interleave_fields, control_fields}
+use Rattle.nfit_tables.specs.Spelling.{type_of, spelling, range_fields, mapping_fields, interleave_fields, control_fields}
 use Rattle.nfit_tables.specs.Proper.{FitsPiece, is_kept_as_known}
 use Rattle.nfit_tables.specs.Reading.{told_length, line_count, has_least, is_structure, piece_by, piece_in, range_in, mapping_in, interleave_in, control_in}
 use Rattle.nfit_tables.proofs.Heads.{length-spelling, kind_at, told_at}
@@ -25,7 +25,7 @@ unknown false false true d v w x y z e = absurd cc
 unknown false false false true v w x y z e = absurd cc
 
 -- its type fits its field
-kind_fits : (piece : Piece) → FitsPiece piece → kind_of piece < 2 ^ 16
+kind_fits : (piece : Piece) → FitsPiece piece → type_of piece < 2 ^ 16
 kind_fits (Range p) fits = omega arith
 kind_fits (Mapping p) fits = omega arith
 kind_fits (Interleave p) fits = omega arith
@@ -33,7 +33,7 @@ kind_fits (Control p) fits = omega arith
 kind_fits (Kept p) fits = fits.kind
 
 -- the type of a structure with nothing behind it
-kind_alone : (piece : Piece) → FitsPiece piece → number_at 2 (spelling piece) 0 ≡ kind_of piece
+kind_alone : (piece : Piece) → FitsPiece piece → number_at 2 (spelling piece) 0 ≡ type_of piece
 kind_alone piece fits = ap (λ (bytes : List ℕ). number_at 2 bytes 0) (sym (append-nil (spelling piece))) ∙ kind_at piece [] (kind_fits piece fits)
 
 kept_again : (p : KeptPiece) → drop 4 (spelling (Kept p)) ≡ p.tail
@@ -41,7 +41,7 @@ unfolding spelling
 kept_again p = refl
 
 -- read by its type
-by_kind : (piece : Piece) → FitsPiece piece → is_kept_as_known piece ≡ false → length (spelling piece) < 2 ^ 16 → piece_by (kind_of piece) (spelling piece) ≡ piece
+by_kind : (piece : Piece) → FitsPiece piece → is_kept_as_known piece ≡ false → length (spelling piece) < 2 ^ 16 → piece_by (type_of piece) (spelling piece) ≡ piece
 by_kind (Range p) fits kept short = ap Range (range_again p fits)
 by_kind (Mapping p) fits kept short = ap Mapping (mapping_again p fits)
 by_kind (Interleave p) fits kept short =
@@ -60,7 +60,7 @@ piece_again piece fits kept short = ap (λ (kind : ℕ). piece_by kind (spelling
 
 -- its length is at least the least one of its type
 least_holds : (piece : Piece) (rest : List ℕ) → FitsPiece piece → is_kept_as_known piece ≡ false → length (spelling piece) < 2 ^ 16
-    → has_least (kind_of piece) (length (spelling piece)) (spelling piece ++ rest) ≡ true
+    → has_least (type_of piece) (length (spelling piece)) (spelling piece ++ rest) ≡ true
 least_holds (Range p) rest fits kept short =
     le-leb 56 (length (spelling (Range p))) (omega (arith, length-spelling (Range p), length-append (range_fields p) p.tail, length-range_fields p fits))
 least_holds (Mapping p) rest fits kept short =

@@ -7,7 +7,7 @@ use Rattle.byteorder.specs.Endian.{little_bytes}
 use Rattle.byte_ranges.specs.Ranges.{number_at}
 use Rattle.nfit_tables.specs.declared.pieces.Piece.{Piece}
 use Rattle.nfit_tables.specs.declared.pieces.Piece.TheVariants.{Range, Mapping, Interleave, Control}
-use Rattle.nfit_tables.specs.Spelling.{kind_of, body_of, spelling}
+use Rattle.nfit_tables.specs.Spelling.{type_of, body_of, spelling}
 use Rattle.nfit_tables.specs.Proper.{AreBytes, FitsPiece, is_kept_as_known}
 use Rattle.nfit_tables.specs.Reading.{range_in, mapping_in, interleave_in, control_in, piece_by, piece_in, has_least, line_count, told_length, is_structure}
 use Rattle.byte_ranges.proofs.Numbers.{number_at-take}
@@ -17,7 +17,7 @@ use Rattle.nfit_tables.proofs.LinesSpelled.{interleave_fields_spelled, interleav
 
 -- what the structure is that some bytes of a type are read as
 pub record IsOf (kind : ℕ) (bytes : List ℕ) (p : Piece) : Type 0 where
-  pub kind_is : kind_of p ≡ kind
+  pub kind_is : type_of p ≡ kind
   pub body : body_of p ≡ drop 4 bytes
   pub fits : FitsPiece p
   pub known : is_kept_as_known p ≡ false
@@ -65,8 +65,8 @@ module _ (bytes : List ℕ) (are : AreBytes bytes) (long : 4 ≤ length bytes) (
   unfolding spelling
   spelling_is p is =
       let len : 4 + length (body_of p) ≡ length bytes = omega (arith, ap length is.body, length-drop 4 bytes) in
-      let front = field_number bytes are 2 0 2 (kind_of p) refl (omega arith) is.kind_is followed_by field_number bytes are 2 2 4 (4 + length (body_of p)) refl (omega arith) (len ∙ sym told) in
-      ap (λ (t : List ℕ). little_bytes 2 (kind_of p) ++ little_bytes 2 (4 + length (body_of p)) ++ t) is.body ∙ sym front.parts
+      let front = field_number bytes are 2 0 2 (type_of p) refl (omega arith) is.kind_is followed_by field_number bytes are 2 2 4 (4 + length (body_of p)) refl (omega arith) (len ∙ sym told) in
+      ap (λ (t : List ℕ). little_bytes 2 (type_of p) ++ little_bytes 2 (4 + length (body_of p)) ++ t) is.body ∙ sym front.parts
 
   piece_read : has_least (number_at 2 bytes 0) (length bytes) bytes ≡ true → IsRead bytes (piece_in bytes)
   piece_read least =

@@ -8,7 +8,7 @@ use Rattle.nfit_tables.specs.declared.fault.NfitFault.{NfitFault}
 use Rattle.nfit_tables.specs.declared.pieces.Header.{Header}
 use Rattle.nfit_tables.specs.declared.pieces.Piece.{Piece}
 use Rattle.nfit_tables.specs.declared.pieces.Nfit.{Nfit}
-use Rattle.nfit_tables.specs.Spelling.{spellings, length_of, checksum_of, text}
+use Rattle.nfit_tables.specs.Spelling.{spellings, length_of, checksum_byte, text}
 use Rattle.nfit_tables.specs.Proper.{IsProper, names, region_count, module_count}
 use Rattle.nfit_tables.specs.Reading.{◌>>=◌, header_in, pieces_at, first_twice, named_once, checked, table_behind, table_of}
 use Rattle.nfit_tables.proofs.PiecesAgain.{pieces_again}
@@ -45,7 +45,7 @@ behind_again bytes n proper head pieces =
 pub table_of-text : (n : Nfit) → IsProper n → table_of (text n) ≡ Ok n
 table_of-text n proper =
     let bytes = text n in
-    let checksum = checksum_of n in
+    let checksum = checksum_byte n in
     let len = length_of n in
     let rest = spellings n.pieces in
     let count : length bytes ≡ 40 + length rest = length-header checksum len n.header rest proper.header in

@@ -2,4 +2,5 @@ pub mod Spelling
 pub mod Proper
 pub mod Reading
 pub mod Fitting
-pub mod Seen
+pub mod Limits
+pub mod Marks

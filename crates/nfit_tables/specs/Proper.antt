@@ -12,6 +12,7 @@ use Rattle.nfit_tables.specs.declared.pieces.KeptPiece.{KeptPiece}
 use Rattle.nfit_tables.specs.declared.pieces.Piece.{Piece}
 use Rattle.nfit_tables.specs.declared.pieces.Piece.TheVariants.{Range, Mapping, Interleave, Control, Kept}
 use Rattle.nfit_tables.specs.declared.pieces.Nfit.{Nfit}
+use Rattle.nfit_tables.specs.Limits.{most_modules, most_regions}
 use Rattle.nfit_tables.specs.Spelling.{length_of, spelling}
 
 -- What the fields of a value of the program hold anyway: numbers of their widths, and bytes.
@@ -159,5 +160,5 @@ pub record IsProper (n : Nfit) : Type 0 where
   pub short : All (λ (p : Piece). length (spelling p) < 2 ^ 16) n.pieces
   pub len : length_of n < 2 ^ 32
   pub differ : AllDiffer (names n.pieces)
-  pub regions : region_count n.pieces ≤ 64
-  pub modules : module_count n.pieces ≤ 64
+  pub regions : region_count n.pieces ≤ most_regions
+  pub modules : module_count n.pieces ≤ most_modules

@@ -15,6 +15,7 @@ use Rattle.nfit_tables.specs.declared.pieces.ControlPiece.{ControlPiece}
 use Rattle.nfit_tables.specs.declared.pieces.Piece.{Piece}
 use Rattle.nfit_tables.specs.declared.pieces.Piece.TheVariants.{Range, Mapping, Interleave, Control, Kept}
 use Rattle.nfit_tables.specs.declared.pieces.Nfit.{Nfit}
+use Rattle.nfit_tables.specs.Limits.{header_len, least_control, least_interleave, least_mapping, least_range, least_structure, most_modules, most_regions}
 use Rattle.nfit_tables.specs.Proper.{is_same_name, module_count, names, region_count}
 
 infixl 10 ◌>>=◌
@@ -39,7 +40,7 @@ range_in bytes = record {
   base = number_at 8 bytes 32;
   length = number_at 8 bytes 40;
   attributes = number_at 8 bytes 48;
-  tail = drop 56 bytes;
+  tail = drop least_range bytes;
 }
 
 unfoldable pub mapping_in : List ℕ → MappingPiece
@@ -56,7 +57,7 @@ mapping_in bytes = record {
   ways = number_at 2 bytes 42;
   state_flags = number_at 2 bytes 44;
   reserved = number_at 2 bytes 46;
-  tail = drop 48 bytes;
+  tail = drop least_mapping bytes;
 }
 
 -- how many lines an interleave structure tells
@@ -64,7 +65,7 @@ abbrev pub line_count : List ℕ → ℕ
 line_count bytes = number_at 4 bytes 8
 
 abbrev pub lines_in : ℕ → List ℕ → List ℕ
-lines_in count bytes = map (λ line. number_at 4 bytes (16 + 4 * line)) (range_with_len 0 count)
+lines_in count bytes = map (λ line. number_at 4 bytes (least_interleave + 4 * line)) (range_with_len 0 count)
 
 unfoldable pub interleave_in : List ℕ → InterleavePiece
 interleave_in bytes = record {
@@ -72,7 +73,7 @@ interleave_in bytes = record {
   reserved = number_at 2 bytes 6;
   line_size = number_at 4 bytes 12;
   lines = lines_in (line_count bytes) bytes;
-  tail = drop (16 + 4 * line_count bytes) bytes;
+  tail = drop (least_interleave + 4 * line_count bytes) bytes;
 }
 
 unfoldable pub control_in : List ℕ → ControlPiece
@@ -91,7 +92,7 @@ control_in bytes = record {
   serial_number = number_at 4 bytes 24;
   format_code = number_at 2 bytes 28;
   number_of_windows = number_at 2 bytes 30;
-  tail = drop 32 bytes;
+  tail = drop least_control bytes;
 }
 
 -- the structure that these bytes are, by its type
@@ -101,7 +102,7 @@ piece_by kind bytes =
     else if kind == 1 then Mapping (mapping_in bytes)
     else if kind == 2 then Interleave (interleave_in bytes)
     else if kind == 4 then Control (control_in bytes)
-    else Kept (record { kind = kind; tail = drop 4 bytes })
+    else Kept (record { kind = kind; tail = drop least_structure bytes })
 
 abbrev pub piece_in : List ℕ → Piece
 piece_in bytes = piece_by (number_at 2 bytes 0) bytes
@@ -109,11 +110,11 @@ piece_in bytes = piece_by (number_at 2 bytes 0) bytes
 -- the length is at least the least one of the type
 abbrev pub has_least : ℕ → ℕ → List ℕ → Bool
 has_least kind len bytes =
-    if kind == 0 then nat_le 56 len
-    else if kind == 1 then nat_le 48 len
-    else if kind == 2 then nat_le 16 len && nat_le (16 + 4 * line_count bytes) len
-    else if kind == 4 then nat_le 32 len
-    else nat_le 4 len
+    if kind == 0 then nat_le least_range len
+    else if kind == 1 then nat_le least_mapping len
+    else if kind == 2 then nat_le least_interleave len && nat_le (least_interleave + 4 * line_count bytes) len
+    else if kind == 4 then nat_le least_control len
+    else nat_le least_structure len
 
 -- the length that a structure tells
 abbrev pub told_length : List ℕ → ℕ
@@ -121,7 +122,7 @@ told_length bytes = number_at 2 bytes 2
 
 -- a whole structure stands at the front
 abbrev pub is_structure : List ℕ → Bool
-is_structure bytes = nat_le 4 (length bytes)
+is_structure bytes = nat_le least_structure (length bytes)
     && nat_le (told_length bytes) (length bytes)
     && has_least (number_at 2 bytes 0) (told_length bytes) bytes
 
@@ -156,8 +157,8 @@ first_twice pieces = twice_behind [] (names pieces)
 -- Nothing stands twice that names something, or too often.
 abbrev pub counted : Nfit → Result Nfit NfitFault
 counted n =
-    if nat_lt 64 (region_count n.pieces) then Err (TooMany 0)
-    else if nat_lt 64 (module_count n.pieces) then Err (TooMany 1)
+    if nat_lt most_regions (region_count n.pieces) then Err (TooMany 0)
+    else if nat_lt most_modules (module_count n.pieces) then Err (TooMany 1)
     else Ok n
 
 abbrev pub named_once : Option (ℕ × ℕ) → Nfit → Result Nfit NfitFault
@@ -169,13 +170,13 @@ checked n = named_once (first_twice n.pieces) n
 
 -- the structures behind a header that is right
 abbrev pub table_behind : List ℕ → Result Nfit NfitFault
-table_behind bytes = pieces_at (length bytes) 40 (drop 40 bytes) >>= λ pieces.
+table_behind bytes = pieces_at (length bytes) header_len (drop header_len bytes) >>= λ pieces.
     checked (record { header = header_in bytes; pieces = pieces })
 
 -- the table that the bytes spell, or the first of the faults in their order
 abbrev pub table_of : List ℕ → Result Nfit NfitFault
 table_of bytes =
-    if nat_lt (length bytes) 40 then Err (Short (length bytes))
+    if nat_lt (length bytes) header_len then Err (Short (length bytes))
     else if not (bytes_eq (take 4 bytes) (codes "NFIT")) then Err Signature
     else if not (number_at 4 bytes 4 == length bytes) then Err (Length (number_at 4 bytes 4) (length bytes))
     else if not (slice_index bytes 8 == 1) then Err (Revision (slice_index bytes 8))

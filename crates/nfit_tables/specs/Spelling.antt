@@ -10,6 +10,7 @@ use Rattle.nfit_tables.specs.declared.pieces.ControlPiece.{ControlPiece}
 use Rattle.nfit_tables.specs.declared.pieces.Piece.{Piece}
 use Rattle.nfit_tables.specs.declared.pieces.Piece.TheVariants.{Range, Mapping, Interleave, Control, Kept}
 use Rattle.nfit_tables.specs.declared.pieces.Nfit.{Nfit}
+use Rattle.nfit_tables.specs.Limits.{header_len}
 
 -- The fields of the structures behind their type and length, each at its offset.
 --
@@ -69,12 +70,12 @@ control_fields p = little_bytes 2 p.index
     ++ little_bytes 2 p.number_of_windows
 
 -- the type of a structure
-abbrev pub kind_of : Piece → ℕ
-kind_of (Range p) = 0
-kind_of (Mapping p) = 1
-kind_of (Interleave p) = 2
-kind_of (Control p) = 4
-kind_of (Kept p) = p.kind
+abbrev pub type_of : Piece → ℕ
+type_of (Range p) = 0
+type_of (Mapping p) = 1
+type_of (Interleave p) = 2
+type_of (Control p) = 4
+type_of (Kept p) = p.kind
 
 -- its bytes behind the type and the length: the fields, and the tail
 abbrev pub body_of : Piece → List ℕ
@@ -86,7 +87,7 @@ body_of (Kept p) = p.tail
 
 -- a structure: its type, the length of the whole, and the body
 unfoldable pub spelling : Piece → List ℕ
-spelling piece = little_bytes 2 (kind_of piece) ++ little_bytes 2 (4 + length (body_of piece)) ++ body_of piece
+spelling piece = little_bytes 2 (type_of piece) ++ little_bytes 2 (4 + length (body_of piece)) ++ body_of piece
 
 abbrev pub spellings : List Piece → List ℕ
 spellings pieces = flat_map spelling pieces
@@ -106,16 +107,16 @@ header_with checksum len h = codes "NFIT"
 
 -- the length of a table
 abbrev pub length_of : Nfit → ℕ
-length_of n = 40 + length (spellings n.pieces)
+length_of n = header_len + length (spellings n.pieces)
 
 -- the table with this checksum byte
 abbrev pub text_with : ℕ → Nfit → List ℕ
 text_with checksum n = header_with checksum (length_of n) n.header ++ spellings n.pieces
 
 -- the checksum byte with which all bytes sum to 0 modulo 256
-abbrev pub checksum_of : Nfit → ℕ
-checksum_of n = (256 - sum (text_with 0 n) % 256) % 256
+abbrev pub checksum_byte : Nfit → ℕ
+checksum_byte n = (256 - sum (text_with 0 n) % 256) % 256
 
 -- the bytes of a table
 abbrev pub text : Nfit → List ℕ
-text n = text_with (checksum_of n) n
+text n = text_with (checksum_byte n) n

@@ -3,16 +3,15 @@
 ghost use Rattle.std.specs.Prelude.{◌≡◌, ℕ, length, nat_lt, IfOk, IfSome, IsTrue, OnOk};
 ghost use Rattle.nfit_tables.specs.Proper.{handle_of, is_region, module_count, name_of, region_count};
 ghost use Rattle.nfit_tables.specs.Reading.{Gives, checked, first_twice};
-ghost use Rattle.nfit_tables.specs.Seen.{is_indexed, with_new};
+ghost use Rattle.nfit_tables.specs.Limits.{most_modules};
+ghost use Rattle.nfit_tables.specs.Marks.{is_indexed, with_new};
 
 use crate::fault::{NfitFault, ReadNfit};
+use crate::limits::{MOST_MODULES, MOST_REGIONS};
+use crate::marks::IndexMarks;
 use crate::pieces::{Nfit, Piece};
-use crate::seen::Seen;
 use std::alloc::{AllocError, Global};
 use view_types::PERSISTENT_MEMORY;
-
-/// The most regions that a table has, and the most modules.
-const MOST: usize = 64;
 
 /// The table, if nothing in it stands twice or too often.
 pub(crate) fn checked(alloc: Global, nfit: Nfit) -> Result<Nfit, ReadNfit>
@@ -22,7 +21,7 @@ pub(crate) fn checked(alloc: Global, nfit: Nfit) -> Result<Nfit, ReadNfit>
     if let Some((kind, index)) = first_twice(alloc, pieces)? {
         return Err(ReadNfit::Fault(NfitFault::TwiceIndex { kind, index }));
     }
-    if region_count(pieces) > MOST {
+    if region_count(pieces) > MOST_REGIONS {
         return Err(ReadNfit::Fault(NfitFault::TooMany { kind: 0 }));
     }
     if has_many_modules(alloc, pieces)? {
@@ -35,7 +34,7 @@ pub(crate) fn checked(alloc: Global, nfit: Nfit) -> Result<Nfit, ReadNfit>
 fn first_twice(alloc: Global, pieces: &[Piece]) -> Result<Option<(u16, u16)>, AllocError>
     ensures { IfOk result (λ name. name ≡ first_twice pieces.now) }
 {
-    let mut seen = Seen::new(alloc)?;
+    let mut seen = IndexMarks::new(alloc)?;
     for piece in pieces {
         if let Some((kind, index)) = name_of(piece) {
             if seen.add(kind, index) {
@@ -82,13 +81,13 @@ fn is_region(piece: &Piece) -> bool
 
 /// Whether there are more device handles in mappings than a table may have.
 fn has_many_modules(alloc: Global, pieces: &[Piece]) -> Result<bool, AllocError>
-    ensures { IfOk result (λ many. many ≡ nat_lt 64 (module_count pieces.now)) }
+    ensures { IfOk result (λ many. many ≡ nat_lt most_modules (module_count pieces.now)) }
 {
     let mut handles = Vec::new(alloc);
     for piece in pieces {
         if let Some(handle) = handle_of(piece) {
             add_new(&mut handles, handle)?;
-            if handles.len() > MOST {
+            if handles.len() > MOST_MODULES {
                 return Ok(true);
             }
         }

@@ -18,13 +18,13 @@ pub enum NfitFault {
     Revision { value: u8 },
     /// The sum of all bytes modulo 256 is not 0.
     Checksum { sum: u8 },
-    /// The structure at this offset is cut off: fewer than 4 bytes are there, or its length is below the least of its type
-    /// or reaches past the end.
+    /// The structure at this offset is cut off: fewer than 4 bytes are there, or its length is below the least of its
+    /// type or reaches past the end.
     Structure { at: u32 },
     /// An index above 0 is that of an earlier structure of the same type.
     TwiceIndex { kind: u16, index: u16 },
-    /// There are more than 64 address ranges of persistent memory with an index above 0, where the kind is 0, or more than
-    /// 64 modules, where it is 1.
+    /// There are more than `MOST_REGIONS` address ranges of persistent memory with an index above 0, where the kind is
+    /// 0, or more than `MOST_MODULES` modules, where it is 1.
     TooMany { kind: u16 },
 }
 

@@ -1,20 +1,22 @@
 //! The fields of structures, at their offsets.
 
 ghost use Rattle.std.specs.Prelude.{◌≡◌, ◌+◌, ◌*◌, ◌≤◌, drop, length, slice_index, IfOk, IsTrue};
-ghost use Rattle.byte_ranges.specs.Ranges.{number_at, range};
+ghost use Rattle.byte_ranges.specs.Ranges.{number_at};
+ghost use Rattle.nfit_tables.specs.Limits.{header_len, least_control, least_interleave, least_mapping, least_range, least_structure};
 ghost use Rattle.nfit_tables.specs.Reading.{control_in, has_least, header_in, interleave_in, line_count, lines_in, mapping_in, piece_by, piece_in, range_in};
 
+use crate::limits::{LEAST_CONTROL, LEAST_INTERLEAVE, LEAST_MAPPING, LEAST_RANGE, LEAST_STRUCTURE};
 use crate::pieces::{
     ControlPiece, Header, InterleavePiece, KeptPiece, MappingPiece, Piece, RangePiece,
 };
-use byteorder::{ByteOrder, LittleEndian};
+use byte_ranges::{array_at, u16_at, u32_at, u64_at};
 use std::alloc::{AllocError, Global};
 use view_types::List;
 
 /// The fields of the header.
 #[tactic(auto, unfolding(crate::specs::Reading::header_in))]
 pub(crate) fn header(bytes: &[u8]) -> Header
-    requires { 40 ≤ length bytes.now }
+    requires { header_len ≤ length bytes.now }
     ensures { result ≡ header_in bytes.now }
 {
     Header {
@@ -29,7 +31,7 @@ pub(crate) fn header(bytes: &[u8]) -> Header
 
 /// The structure that the bytes are, all of them.
 pub(crate) fn piece(alloc: Global, bytes: &[u8]) -> Result<Piece, AllocError>
-    requires start { 4 ≤ length bytes.now }
+    requires start { least_structure ≤ length bytes.now }
     requires least { IsTrue (has_least (number_at 2 bytes.now 0) (length bytes.now) bytes.now) }
     ensures { IfOk result (λ piece. piece ≡ piece_in bytes.now) }
 {
@@ -41,14 +43,14 @@ pub(crate) fn piece(alloc: Global, bytes: &[u8]) -> Result<Piece, AllocError>
         4 => Piece::Control(control(alloc, bytes)?),
         _ => Piece::Kept(KeptPiece {
             kind,
-            tail: tail(alloc, bytes, 4)?,
+            tail: tail(alloc, bytes, LEAST_STRUCTURE)?,
         }),
     })
 }
 
 #[tactic(auto, unfolding(crate::specs::Reading::range_in))]
 fn range(alloc: Global, bytes: &[u8]) -> Result<RangePiece, AllocError>
-    requires { 56 ≤ length bytes.now }
+    requires { least_range ≤ length bytes.now }
     ensures { IfOk result (λ p. p ≡ range_in bytes.now) }
 {
     Ok(RangePiece {
@@ -60,13 +62,13 @@ fn range(alloc: Global, bytes: &[u8]) -> Result<RangePiece, AllocError>
         base: u64_at(bytes, 32),
         length: u64_at(bytes, 40),
         attributes: u64_at(bytes, 48),
-        tail: tail(alloc, bytes, 56)?,
+        tail: tail(alloc, bytes, LEAST_RANGE)?,
     })
 }
 
 #[tactic(auto, unfolding(crate::specs::Reading::mapping_in))]
 fn mapping(alloc: Global, bytes: &[u8]) -> Result<MappingPiece, AllocError>
-    requires { 48 ≤ length bytes.now }
+    requires { least_mapping ≤ length bytes.now }
     ensures { IfOk result (λ p. p ≡ mapping_in bytes.now) }
 {
     Ok(MappingPiece {
@@ -82,14 +84,14 @@ fn mapping(alloc: Global, bytes: &[u8]) -> Result<MappingPiece, AllocError>
         ways: u16_at(bytes, 42),
         state_flags: u16_at(bytes, 44),
         reserved: u16_at(bytes, 46),
-        tail: tail(alloc, bytes, 48)?,
+        tail: tail(alloc, bytes, LEAST_MAPPING)?,
     })
 }
 
 #[tactic(auto, unfolding(crate::specs::Reading::interleave_in))]
 fn interleave(alloc: Global, bytes: &[u8]) -> Result<InterleavePiece, AllocError>
-    requires fields { 16 ≤ length bytes.now }
-    requires lines { 16 + 4 * line_count bytes.now ≤ length bytes.now }
+    requires fields { least_interleave ≤ length bytes.now }
+    requires lines { least_interleave + 4 * line_count bytes.now ≤ length bytes.now }
     ensures { IfOk result (λ p. p ≡ interleave_in bytes.now) }
 {
     let count = u32_at(bytes, 8) as usize;
@@ -98,25 +100,25 @@ fn interleave(alloc: Global, bytes: &[u8]) -> Result<InterleavePiece, AllocError
         reserved: u16_at(bytes, 6),
         line_size: u32_at(bytes, 12),
         lines: lines(alloc, count, bytes)?,
-        tail: tail(alloc, bytes, 16 + 4 * count)?,
+        tail: tail(alloc, bytes, LEAST_INTERLEAVE + 4 * count)?,
     })
 }
 
 /// The offsets of so many lines.
 fn lines(alloc: Global, count: usize, bytes: &[u8]) -> Result<List<u32>, AllocError>
-    requires { 16 + 4 * count ≤ length bytes.now }
+    requires { least_interleave + 4 * count ≤ length bytes.now }
     ensures { IfOk result (λ lines. lines ≡ lines_in count bytes.now) }
 {
     let mut lines = List::new(alloc);
     for line in 0..count {
-        lines.push(u32_at(bytes, 16 + 4 * line))?;
+        lines.push(u32_at(bytes, LEAST_INTERLEAVE + 4 * line))?;
     }
     Ok(lines)
 }
 
 #[tactic(auto, unfolding(crate::specs::Reading::control_in))]
 fn control(alloc: Global, bytes: &[u8]) -> Result<ControlPiece, AllocError>
-    requires { 32 ≤ length bytes.now }
+    requires { least_control ≤ length bytes.now }
     ensures { IfOk result (λ p. p ≡ control_in bytes.now) }
 {
     Ok(ControlPiece {
@@ -134,7 +136,7 @@ fn control(alloc: Global, bytes: &[u8]) -> Result<ControlPiece, AllocError>
         serial_number: u32_at(bytes, 24),
         format_code: u16_at(bytes, 28),
         number_of_windows: u16_at(bytes, 30),
-        tail: tail(alloc, bytes, 32)?,
+        tail: tail(alloc, bytes, LEAST_CONTROL)?,
     })
 }
 
@@ -144,35 +146,4 @@ fn tail(alloc: Global, bytes: &[u8], at: usize) -> Result<List<u8>, AllocError>
     ensures { IfOk result (λ tail. tail ≡ drop at bytes.now) }
 {
     Ok(List::from_vec(Vec::from_slice(alloc, &bytes[at..])?))
-}
-
-pub(crate) fn u16_at(bytes: &[u8], at: usize) -> u16
-    requires { at + 2 ≤ length bytes.now }
-    ensures { result ≡ number_at 2 bytes.now at }
-{
-    LittleEndian::read_u16(&bytes[at..])
-}
-
-pub(crate) fn u32_at(bytes: &[u8], at: usize) -> u32
-    requires { at + 4 ≤ length bytes.now }
-    ensures { result ≡ number_at 4 bytes.now at }
-{
-    LittleEndian::read_u32(&bytes[at..])
-}
-
-fn u64_at(bytes: &[u8], at: usize) -> u64
-    requires { at + 8 ≤ length bytes.now }
-    ensures { result ≡ number_at 8 bytes.now at }
-{
-    LittleEndian::read_u64(&bytes[at..])
-}
-
-/// The N bytes at an offset.
-fn array_at<const N: usize>(bytes: &[u8], at: usize) -> [u8; N]
-    requires { at + N ≤ length bytes.now }
-    ensures { result ≡ range bytes.now at N }
-{
-    let mut array = [0; N];
-    array.copy_from_slice(&bytes[at..at + N]);
-    array
 }

@@ -5,14 +5,16 @@ mod counting;
 mod fault;
 mod fields;
 mod laws;
+mod limits;
+mod marks;
 mod pieces;
 mod reading;
-mod seen;
 mod sums;
 mod writing;
 
 pub use fault::{NfitFault, ReadNfit};
 pub use laws::one_table;
+pub use limits::{MOST_BYTES, MOST_MODULES, MOST_REGIONS};
 pub use pieces::{
     ControlPiece, Header, InterleavePiece, KeptPiece, MappingPiece, Nfit, Piece, RangePiece,
 };

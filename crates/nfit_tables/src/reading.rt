@@ -4,20 +4,22 @@ ghost use Rattle.std.specs.Prelude.{◌≡◌, ◌+◌, ◌≤◌, ◌<◌, ◌^
 ghost use Rattle.byte_ranges.specs.Ranges.{number_at};
 ghost use Rattle.nfit_tables.specs.declared.pieces.Nfit.{Nfit};
 ghost use Rattle.nfit_tables.specs.declared.fault.ReadNfit.TheVariants.{Fault};
+ghost use Rattle.nfit_tables.specs.Limits.{header_len};
 ghost use Rattle.nfit_tables.specs.Proper.{IsProper};
 ghost use Rattle.nfit_tables.specs.Spelling.{text};
 ghost use Rattle.nfit_tables.specs.Reading.{Gives, has_least, is_structure, pieces_at, table_of, told_length};
 
 use crate::counting::checked;
 use crate::fault::{NfitFault, ReadNfit};
-use crate::fields::{header, piece, u16_at, u32_at};
+use crate::fields::{header, piece};
+use crate::limits::{
+    HEADER_LEN, LEAST_CONTROL, LEAST_INTERLEAVE, LEAST_MAPPING, LEAST_RANGE, LEAST_STRUCTURE,
+};
 use crate::pieces::{Nfit, Piece};
 use crate::sums::sum_of;
+use byte_ranges::{u16_at, u32_at};
 use std::alloc::Global;
 use view_types::List;
-
-/// The length of the header in bytes.
-const HEADER: usize = 40;
 
 /// The table that the bytes are, all of them (ACPI 6.2, section 5.2.25).
 ///
@@ -27,10 +29,10 @@ const HEADER: usize = 40;
 /// - `Length` if the header tells another length than there are bytes.
 /// - `Revision` if the revision is not 1.
 /// - `Checksum` if the sum of all bytes modulo 256 is not 0.
-/// - `Structure` if at the offset `at` fewer than 4 bytes are left, or the structure there tells a length below the least
-///   of its type, or one that reaches past the end.
-/// - `TwiceIndex` if an address range, an interleave or a control region has an index above 0 that an earlier structure of
-///   its type has: the first such structure.
+/// - `Structure` if at the offset `at` fewer than 4 bytes are left, or the structure there tells a length below the
+///   least of its type, or one that reaches past the end.
+/// - `TwiceIndex` if an address range, an interleave or a control region has an index above 0 that an earlier structure
+///   of its type has: the first such structure.
 /// - `TooMany` of kind 0 if more than 64 address ranges of persistent memory have an index above 0.
 /// - `TooMany` of kind 1 if the region mappings have more than 64 different device handles.
 ///
@@ -50,7 +52,7 @@ pub fn read_nfit(alloc: Global, bytes: &[u8]) -> Result<Nfit, ReadNfit>
 fn table(alloc: Global, bytes: &[u8]) -> Result<Nfit, ReadNfit>
     ensures { Gives result (table_of bytes.now) }
 {
-    if bytes.len() < HEADER {
+    if bytes.len() < HEADER_LEN {
         return fault(NfitFault::Short {
             len: bytes.len() as u64,
         });
@@ -91,12 +93,12 @@ fn fault(fault: NfitFault) -> Result<Nfit, ReadNfit>
 
 /// The structures behind the header.
 fn pieces(alloc: Global, bytes: &[u8]) -> Result<List<Piece>, ReadNfit>
-    requires header { 40 ≤ length bytes.now }
+    requires header { header_len ≤ length bytes.now }
     requires len { length bytes.now < 2 ^ 32 }
-    ensures { Gives result (pieces_at (length bytes.now) 40 (drop 40 bytes.now)) }
+    ensures { Gives result (pieces_at (length bytes.now) header_len (drop header_len bytes.now)) }
 {
     let mut pieces = List::new(alloc);
-    let mut at = HEADER;
+    let mut at = HEADER_LEN;
     while at < bytes.len() {
         let rest = &bytes[at..];
         let Some(len) = structure_len(rest) else {
@@ -112,7 +114,7 @@ fn pieces(alloc: Global, bytes: &[u8]) -> Result<List<Piece>, ReadNfit>
 fn structure_len(bytes: &[u8]) -> Option<usize>
     ensures { result ≡ (if is_structure bytes.now then Some (told_length bytes.now) else None) }
 {
-    if bytes.len() < 4 {
+    if bytes.len() < LEAST_STRUCTURE {
         return None;
     }
     let len = usize::from(u16_at(bytes, 2));
@@ -129,10 +131,10 @@ fn has_least(bytes: &[u8], len: usize) -> bool
     ensures { result ≡ has_least (number_at 2 bytes.now 0) len bytes.now }
 {
     match u16_at(bytes, 0) {
-        0 => len >= 56,
-        1 => len >= 48,
-        2 => len >= 16 && len >= 16 + 4 * u32_at(bytes, 8) as usize,
-        4 => len >= 32,
-        _ => len >= 4,
+        0 => len >= LEAST_RANGE,
+        1 => len >= LEAST_MAPPING,
+        2 => { len >= LEAST_INTERLEAVE && len >= LEAST_INTERLEAVE + 4 * u32_at(bytes, 8) as usize }
+        4 => len >= LEAST_CONTROL,
+        _ => len >= LEAST_STRUCTURE,
     }
 }

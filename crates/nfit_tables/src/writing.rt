@@ -4,19 +4,21 @@ ghost use Rattle.std.specs.Prelude.{◌≡◌, ◌+◌, ◌*◌, ◌%◌, ◌<�
 ghost use Rattle.std.specs.Option.{SomeIff};
 ghost use Rattle.std.specs.List.{flat_map, list_all};
 ghost use Rattle.byteorder.specs.Endian.{little_bytes};
-ghost use Rattle.nfit_tables.specs.Spelling.{body_of, control_fields, header_with, interleave_fields, kind_of, length_of, mapping_fields, range_fields, spelling, spellings, text};
+ghost use Rattle.nfit_tables.specs.Spelling.{body_of, control_fields, header_with, interleave_fields, type_of, length_of, mapping_fields, range_fields, spelling, spellings, text};
 ghost use Rattle.nfit_tables.specs.declared.pieces.Piece.TheVariants.{Interleave, Range};
 ghost use Rattle.nfit_tables.specs.Fitting.{fits};
 
+use crate::limits::{
+    HEADER_LEN, LEAST_CONTROL, LEAST_INTERLEAVE, LEAST_MAPPING, LEAST_RANGE, LEAST_STRUCTURE,
+    MOST_BYTES,
+};
 use crate::pieces::{ControlPiece, Header, InterleavePiece, MappingPiece, Nfit, Piece, RangePiece};
 use crate::sums::sum_of;
+use byte_ranges::{push_u16, push_u32, push_u64};
 use std::alloc::{AllocError, Global};
 
-/// The most bytes that a table may have.
-const MOST: u32 = 1_048_576;
-
 /// The offset of the checksum byte.
-const CHECKSUM: usize = 9;
+const CHECKSUM_AT: usize = 9;
 
 /// Whether a table can be written: each structure is shorter than 65,536 bytes, and the whole has at most 1,048,576.
 pub fn fits(nfit: &Nfit) -> bool
@@ -34,7 +36,7 @@ pub fn write_nfit(alloc: Global, nfit: &Nfit) -> Result<Vec<u8>, AllocError>
     let mut bytes = Vec::with_capacity(alloc, len as usize)?;
     put_header(&mut bytes, len, &nfit.header)?;
     put_pieces(&mut bytes, nfit.pieces.as_slice())?;
-    bytes[CHECKSUM] = 0u8.wrapping_sub(sum_of(&bytes));
+    bytes[CHECKSUM_AT] = 0u8.wrapping_sub(sum_of(&bytes));
     Ok(bytes)
 }
 
@@ -42,10 +44,10 @@ pub fn write_nfit(alloc: Global, nfit: &Nfit) -> Result<Vec<u8>, AllocError>
 fn table_len(nfit: &Nfit) -> Option<u32>
     ensures { SomeIff result (IsTrue (fits nfit.now)) (length_of nfit.now) }
 {
-    let mut len = 40;
+    let mut len = HEADER_LEN as u32;
     for piece in nfit.pieces.as_slice() {
         len += u32::from(piece_len(piece)?);
-        if len > MOST {
+        if len > MOST_BYTES {
             return None;
         }
     }
@@ -59,17 +61,17 @@ fn piece_len(piece: &Piece) -> Option<u16>
 {
     match piece {
         Piece::Range(p) => range_len(p),
-        Piece::Mapping(p) => len_with(48, p.tail.len()),
+        Piece::Mapping(p) => len_with(LEAST_MAPPING, p.tail.len()),
         Piece::Interleave(p) => {
             let lines = p.lines.len();
             if lines < 0x4000 {
-                len_with(16 + 4 * lines as u32, p.tail.len())
+                len_with(LEAST_INTERLEAVE + 4 * lines, p.tail.len())
             } else {
                 None
             }
         }
-        Piece::Control(p) => len_with(32, p.tail.len()),
-        Piece::Kept(p) => len_with(4, p.tail.len()),
+        Piece::Control(p) => len_with(LEAST_CONTROL, p.tail.len()),
+        Piece::Kept(p) => len_with(LEAST_STRUCTURE, p.tail.len()),
     }
 }
 
@@ -77,18 +79,18 @@ fn piece_len(piece: &Piece) -> Option<u16>
 fn range_len(p: &RangePiece) -> Option<u16>
     ensures { SomeIff result (length (spelling (Range p.now)) < 65536) (length (spelling (Range p.now))) }
 {
-    len_with(56, p.tail.len())
+    len_with(LEAST_RANGE, p.tail.len())
 }
 
 /// The length of fields and a tail, where it is below 65,536.
-fn len_with(fields: u32, tail: usize) -> Option<u16>
+fn len_with(fields: usize, tail: usize) -> Option<u16>
     requires { fields < 131072 }
     ensures { SomeIff result (fields + tail < 65536) (fields + tail) }
 {
     if tail >= 0x10000 {
         return None;
     }
-    u16::try_from(fields + tail as u32).ok()
+    u16::try_from(fields + tail).ok()
 }
 
 /// Appends the header, with 0 in place of the checksum.
@@ -97,14 +99,14 @@ fn put_header(out: &mut Vec<u8>, len: u32, header: &Header) -> Result<(), AllocE
     ensures { OnOk result (out.new.items ≡ out.old.items ++ header_with 0 len header.now) }
 {
     out.extend_from_slice(b"NFIT")?;
-    put_u32(out, len)?;
+    push_u32(out, len)?;
     out.extend_from_slice(&[1, 0])?;
     out.extend_from_slice(&header.oem_id)?;
     out.extend_from_slice(&header.oem_table)?;
-    put_u32(out, header.oem_revision)?;
-    put_u32(out, header.creator)?;
-    put_u32(out, header.creator_revision)?;
-    put_u32(out, header.reserved)
+    push_u32(out, header.oem_revision)?;
+    push_u32(out, header.creator)?;
+    push_u32(out, header.creator_revision)?;
+    push_u32(out, header.reserved)
 }
 
 /// Appends the structures.
@@ -125,14 +127,14 @@ fn put_piece(out: &mut Vec<u8>, piece: &Piece) -> Result<(), AllocError>
     ensures { OnOk result (out.new.items ≡ out.old.items ++ spelling piece.now) }
 {
     let len = piece_len(piece).unwrap();
-    put_u16(out, kind_of(piece))?;
-    put_u16(out, len)?;
+    push_u16(out, type_of(piece))?;
+    push_u16(out, len)?;
     put_body(out, piece)
 }
 
 /// The type of a structure.
-fn kind_of(piece: &Piece) -> u16
-    ensures { result ≡ kind_of piece.now }
+fn type_of(piece: &Piece) -> u16
+    ensures { result ≡ type_of piece.now }
 {
     match piece {
         Piece::Range(_) => 0,
@@ -173,32 +175,32 @@ fn put_body(out: &mut Vec<u8>, piece: &Piece) -> Result<(), AllocError>
 fn put_range(out: &mut Vec<u8>, p: &RangePiece) -> Result<(), AllocError>
     ensures { OnOk result (out.new.items ≡ out.old.items ++ range_fields p.now) }
 {
-    put_u16(out, p.index)?;
-    put_u16(out, p.flags)?;
-    put_u32(out, p.reserved)?;
-    put_u32(out, p.proximity)?;
+    push_u16(out, p.index)?;
+    push_u16(out, p.flags)?;
+    push_u32(out, p.reserved)?;
+    push_u32(out, p.proximity)?;
     out.extend_from_slice(&p.type_guid)?;
-    put_u64(out, p.base)?;
-    put_u64(out, p.length)?;
-    put_u64(out, p.attributes)
+    push_u64(out, p.base)?;
+    push_u64(out, p.length)?;
+    push_u64(out, p.attributes)
 }
 
 #[tactic(auto, unfolding(crate::specs::Spelling::mapping_fields))]
 fn put_mapping(out: &mut Vec<u8>, p: &MappingPiece) -> Result<(), AllocError>
     ensures { OnOk result (out.new.items ≡ out.old.items ++ mapping_fields p.now) }
 {
-    put_u32(out, p.device_handle)?;
-    put_u16(out, p.physical_id)?;
-    put_u16(out, p.region_id)?;
-    put_u16(out, p.range_index)?;
-    put_u16(out, p.control_index)?;
-    put_u64(out, p.region_size)?;
-    put_u64(out, p.region_offset)?;
-    put_u64(out, p.module_address_base)?;
-    put_u16(out, p.interleave_index)?;
-    put_u16(out, p.ways)?;
-    put_u16(out, p.state_flags)?;
-    put_u16(out, p.reserved)
+    push_u32(out, p.device_handle)?;
+    push_u16(out, p.physical_id)?;
+    push_u16(out, p.region_id)?;
+    push_u16(out, p.range_index)?;
+    push_u16(out, p.control_index)?;
+    push_u64(out, p.region_size)?;
+    push_u64(out, p.region_offset)?;
+    push_u64(out, p.module_address_base)?;
+    push_u16(out, p.interleave_index)?;
+    push_u16(out, p.ways)?;
+    push_u16(out, p.state_flags)?;
+    push_u16(out, p.reserved)
 }
 
 #[tactic(auto, unfolding(crate::specs::Spelling::interleave_fields))]
@@ -206,10 +208,10 @@ fn put_interleave(out: &mut Vec<u8>, p: &InterleavePiece) -> Result<(), AllocErr
     requires { length (spelling (Interleave p.now)) < 65536 }
     ensures { OnOk result (out.new.items ≡ out.old.items ++ interleave_fields p.now) }
 {
-    put_u16(out, p.index)?;
-    put_u16(out, p.reserved)?;
-    put_u32(out, p.lines.len() as u32)?;
-    put_u32(out, p.line_size)?;
+    push_u16(out, p.index)?;
+    push_u16(out, p.reserved)?;
+    push_u32(out, p.lines.len() as u32)?;
+    push_u32(out, p.line_size)?;
     put_lines(out, p.lines.as_slice())
 }
 
@@ -218,7 +220,7 @@ fn put_lines(out: &mut Vec<u8>, lines: &[u32]) -> Result<(), AllocError>
     ensures { OnOk result (out.new.items ≡ out.old.items ++ flat_map (little_bytes 4) lines.now) }
 {
     for line in lines {
-        put_u32(out, *line)?;
+        push_u32(out, *line)?;
     }
     Ok(())
 }
@@ -227,35 +229,17 @@ fn put_lines(out: &mut Vec<u8>, lines: &[u32]) -> Result<(), AllocError>
 fn put_control(out: &mut Vec<u8>, p: &ControlPiece) -> Result<(), AllocError>
     ensures { OnOk result (out.new.items ≡ out.old.items ++ control_fields p.now) }
 {
-    put_u16(out, p.index)?;
-    put_u16(out, p.vendor)?;
-    put_u16(out, p.device)?;
-    put_u16(out, p.revision)?;
-    put_u16(out, p.subsystem_vendor)?;
-    put_u16(out, p.subsystem_device)?;
-    put_u16(out, p.subsystem_revision)?;
+    push_u16(out, p.index)?;
+    push_u16(out, p.vendor)?;
+    push_u16(out, p.device)?;
+    push_u16(out, p.revision)?;
+    push_u16(out, p.subsystem_vendor)?;
+    push_u16(out, p.subsystem_device)?;
+    push_u16(out, p.subsystem_revision)?;
     out.extend_from_slice(&[p.valid_fields, p.manufacturing_location])?;
-    put_u16(out, p.manufacturing_date)?;
-    put_u16(out, p.reserved)?;
-    put_u32(out, p.serial_number)?;
-    put_u16(out, p.format_code)?;
-    put_u16(out, p.number_of_windows)
-}
-
-fn put_u16(out: &mut Vec<u8>, number: u16) -> Result<(), AllocError>
-    ensures { OnOk result (out.new.items ≡ out.old.items ++ little_bytes 2 number) }
-{
-    out.extend_from_slice(&number.to_le_bytes())
-}
-
-fn put_u32(out: &mut Vec<u8>, number: u32) -> Result<(), AllocError>
-    ensures { OnOk result (out.new.items ≡ out.old.items ++ little_bytes 4 number) }
-{
-    out.extend_from_slice(&number.to_le_bytes())
-}
-
-fn put_u64(out: &mut Vec<u8>, number: u64) -> Result<(), AllocError>
-    ensures { OnOk result (out.new.items ≡ out.old.items ++ little_bytes 8 number) }
-{
-    out.extend_from_slice(&number.to_le_bytes())
+    push_u16(out, p.manufacturing_date)?;
+    push_u16(out, p.reserved)?;
+    push_u32(out, p.serial_number)?;
+    push_u16(out, p.format_code)?;
+    push_u16(out, p.number_of_windows)
 }

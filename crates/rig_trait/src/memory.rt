@@ -14,6 +14,7 @@ ghost use Rattle.rig_trait.specs.Memory.{new_memory, areas_of};
 
 use crate::counts::Counts;
 use crate::{Failed, Rig, Shown};
+use byte_ranges::put;
 use std::alloc::{AllocError, Global};
 use std::collections::BTreeMap;
 use std::marker::Model;
@@ -113,14 +114,6 @@ fn put_into(areas: &mut BTreeMap<u32, Vec<u8>>, dimm: u32, at: usize, bytes: &[u
     if let Some(area) = areas.get_mut(&dimm) {
         put(area, at, bytes);
     }
-}
-
-/// Puts bytes from an offset on.
-fn put(area: &mut [u8], at: usize, bytes: &[u8])
-    requires { at + length bytes.now ≤ length area.old }
-    ensures { area.new ≡ patched area.old at bytes.now }
-{
-    area[at..at + bytes.len()].copy_from_slice(bytes);
 }
 
 impl Shown for MemoryRig {

@@ -2,11 +2,11 @@ use Rattle.std.proofs.Common.{◌≡◌, ℕ, ◌+◌, List, length, sym, ap, �
 use Rattle.std.specs.Global.{Vec}
 use Rattle.std.specs.List.{filter_map}
 use Rattle.nfit_tables.specs.Proper.{handle_of}
-use Rattle.nfit_tables.specs.Seen.{with_new}
+use Rattle.nfit_tables.specs.Marks.{with_new}
 use Rattle.nfit_tables.proofs.Modules.{added, more_than, none_before}
 use Rattle.nfit_tables.proofs.Walks.{mapped_none, mapped_some}
 use Rattle.nfit_tables.proofs.counting.has_many_modules.Goals as goal
-use Rattle.nfit_tables.proofs.counting.has_many_modules.Goals.{in-Some+in_ok-add_new+else-len-gt-MOST, in_default}
+use Rattle.nfit_tables.proofs.counting.has_many_modules.Goals.{in-Some+in_ok-add_new+else-len-gt-MOST_MODULES, in_default}
 
 pub loop-piece-init : goal.loop-piece-init
 loop-piece-init c = record {
@@ -20,7 +20,7 @@ loop-piece-preserved c =
     let i = c.loop-piece.piece-index in
     let p = c.piece-item.result in
     elim c.match-handle_of.branch [
-      | in-Some+in_ok-add_new+else-len-gt-MOST w ↦
+      | in-Some+in_ok-add_new+else-len-gt-MOST_MODULES w ↦
           let now : c.match-handle_of.handles.items ≡ with_new c.loop-piece.handles.items w.in-Some.handle = ap (λ (v : Vec ℕ). v.items) w.handles-is ∙ w.in_ok-add_new.ensures in
           let next = mapped_some ps i p c.loop-piece-test.true c.piece-item.is handle_of w.in-Some.handle (sym w.in-Some.ensures) in
           record {

@@ -14,12 +14,12 @@ pub returns : goal.returns
 unfolding interleave_fields
 returns c =
     let p = c.args.p.now in
-    let counted = c.in_ok-put_u32.ensures ∙ ap (λ (n : ℕ). c.put_u16-2.new.out.items ++ little_bytes 4 n) c.len.ensures in
+    let counted = c.in_ok-push_u32.ensures ∙ ap (λ (n : ℕ). c.push_u16-2.new.out.items ++ little_bytes 4 n) c.len.ensures in
     let lines = λ (before : List ℕ). ap (λ (lines : List ℕ). before ++ flat_map (little_bytes 4) lines) c.as_slice.ensures in
     on_ok_weaker c.put_lines.result
     (λ last.
-    and_then _ (little_bytes 2 p.index) _ c.in_ok-put_u16.ensures
-    (and_then _ (little_bytes 2 p.reserved) _ c.in_ok-put_u16-2.ensures
+    and_then _ (little_bytes 2 p.index) _ c.in_ok-push_u16.ensures
+    (and_then _ (little_bytes 2 p.reserved) _ c.in_ok-push_u16-2.ensures
     (and_then _ (little_bytes 4 (length p.lines)) _ counted
-    (and_then _ (little_bytes 4 p.line_size) (flat_map (little_bytes 4) p.lines) c.in_ok-put_u32-2.ensures (last ∙ lines _)))))
+    (and_then _ (little_bytes 4 p.line_size) (flat_map (little_bytes 4) p.lines) c.in_ok-push_u32-2.ensures (last ∙ lines _)))))
     c.put_lines.ensures

@@ -15,8 +15,8 @@ too_long n i p inside is long all_fit =
     let most = leb-true (length_of n) 1048576 (and_parts (list_all (λ q. nat_lt (length (spelling q)) 65536) n.pieces) (nat_le (length_of n) 1048576) all_fit).1 in
     omega (arith, most, length-flat_map-take spelling n.pieces i p inside, ap (λ (q : Piece). length (spelling q)) is)
 
-pub returns-then-len-gt-MOST : goal.returns-then-len-gt-MOST
-returns-then-len-gt-MOST c =
+pub returns-then-len-gt-MOST_BYTES : goal.returns-then-len-gt-MOST_BYTES
+returns-then-len-gt-MOST_BYTES c =
     let len = c.in_ok-piece_len.ensures.1 in
     too_long c.args.nfit.now c.loop-piece.piece-index c.piece-item.result (omega (arith, ap length c.as_slice-piece-items.ensures))
     (c.piece-item.is ∙ ap (λ (ps : List Piece). get_or ps c.loop-piece.piece-index c.piece-item.result) c.as_slice-piece-items.ensures)
