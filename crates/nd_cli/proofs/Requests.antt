@@ -7,7 +7,7 @@ use Rattle.rig_trait.specs.Sources.{Draws, TellsLeft}
 use Rattle.nfit_tables.specs.Reading.{table_of}
 use Rattle.nd_cli.specs.declared.faults.Fault.{Fault}
 use Rattle.nd_cli.specs.declared.faults.Fault.TheVariants.{Words, Nfit, Area, Source, Limit, Memory}
-use Rattle.nd_cli.specs.Answers.{nfit_limit}
+use Rattle.nfit_tables.specs.Limits.{most_bytes}
 use Rattle.nd_cli.specs.Outcomes.{ComesTo, Does, FaultsAre, IsCause, IsDone, Outcome, Replies, Fails, ReadsNfit, is_area_fault, is_source_fault}
 use Rattle.nd_cli.specs.Stops.{named_by}
 use Rattle.nd_cli.specs.Tables.{IsTableFault, is_of_source}
@@ -43,8 +43,8 @@ done_cause n asked source (Fails Memory) done read = tt
 
 -- why a line is not done
 table_cause : {N : Type 0} (n : sources.Ghosts N) (bytes : List ℕ) (source : N) (fault : Fault) → IsTableFault fault
-    → ((found : _) → fault ≡ Nfit found → TellsLeft n source → (length (n.left source) ≤ nfit_limit) × (table_of (n.left source) ≡ Err found))
-    → (fault ≡ Limit → TellsLeft n source → nfit_limit < length (n.left source))
+    → ((found : _) → fault ≡ Nfit found → TellsLeft n source → (length (n.left source) ≤ most_bytes) × (table_of (n.left source) ≡ Err found))
+    → (fault ≡ Limit → TellsLeft n source → most_bytes < length (n.left source))
     → IsCause n source (Some (Line bytes)) (Fails fault)
 table_cause n bytes source Words is bad long = absurd is
 table_cause n bytes source (Nfit found) is bad long = (tt, bad found refl)
@@ -85,8 +85,8 @@ module _ {R N : Type 0} (m : rigs.Ghosts R) (n : sources.Ghosts N) where
   comes_labels dimm old new source outcome does = comes_done (LabelsOf dimm) old new source source outcome (λ needed. absurd needed) (unread n source) does
 
   pub comes_table : (bytes : List ℕ) (rig : R) (source_old source_new : N) (fault : Fault) → IsTableFault fault
-      → ((found : _) → fault ≡ Nfit found → TellsLeft n source_old → (length (n.left source_old) ≤ nfit_limit) × (table_of (n.left source_old) ≡ Err found))
-      → (fault ≡ Limit → TellsLeft n source_old → nfit_limit < length (n.left source_old))
+      → ((found : _) → fault ≡ Nfit found → TellsLeft n source_old → (length (n.left source_old) ≤ most_bytes) × (table_of (n.left source_old) ≡ Err found))
+      → (fault ≡ Limit → TellsLeft n source_old → most_bytes < length (n.left source_old))
       → Draws n source_old source_new (is_of_source fault) → ComesTo m n (Some (Line bytes)) rig rig source_old source_new (Fails fault)
   comes_table bytes rig source_old source_new fault is bad long draws = record {
     cause = table_cause n bytes source_old fault is bad long;

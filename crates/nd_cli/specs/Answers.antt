@@ -8,6 +8,7 @@ use Rattle.label_area.specs.Inits.{initialised, slots_of}
 use Rattle.label_area.specs.Modules.{area_kind, module_at}
 use Rattle.module_labels.specs.declared.kind.AreaKind.{AreaKind}
 use Rattle.module_labels.specs.declared.kind.AreaKind.TheVariants.{Missing, WrongSize, Ready, Foreign, Uninit}
+use Rattle.nfit_tables.specs.Limits.{most_bytes}
 use Rattle.nfit_tables.specs.Reading.{table_of}
 use Rattle.nd_cli.specs.declared.lines.Command.{Command}
 use Rattle.nd_cli.specs.declared.lines.Command.TheVariants.{InitLabels}
@@ -18,13 +19,9 @@ use Rattle.nd_cli.specs.Lines.{command_in}
 use Rattle.nd_cli.specs.Texts.{initialised_line, listing, refusal_text}
 use Rattle.nd_cli.specs.Words.{Asked, LabelsOf, Line}
 
--- the most bytes of an NFIT
-abbrev pub nfit_limit : ℕ
-nfit_limit = 1048576
-
 -- an NFIT that is read: it is not too long, and its bytes are one
 abbrev pub IsAccepted : List ℕ → Type 0
-IsAccepted nfit = (length nfit ≤ nfit_limit) × IsOk (table_of nfit)
+IsAccepted nfit = (length nfit ≤ most_bytes) × IsOk (table_of nfit)
 
 pub record Answer : Type 0 where
   pub accepted : Bool

@@ -13,7 +13,8 @@ use Rattle.nd_cli.specs.declared.lines.WordFault.{WordFault}
 use Rattle.nd_cli.specs.declared.replies.Refusal.TheVariants as refusals
 use Rattle.nd_cli.specs.declared.replies.Reply.{Reply}
 use Rattle.nd_cli.specs.declared.replies.Reply.TheVariants.{Labels, Initialised, Refused}
-use Rattle.nd_cli.specs.Answers.{IsAccepted, answer_to, nfit_limit}
+use Rattle.nfit_tables.specs.Limits.{most_bytes}
+use Rattle.nd_cli.specs.Answers.{IsAccepted, answer_to}
 use Rattle.nd_cli.specs.Lines.{command_in}
 use Rattle.nd_cli.specs.Stops.{IsLeft, LeftUnsaid, WritesOnly, module_in, named, named_by}
 use Rattle.nd_cli.specs.Tables.{is_of_source}
@@ -125,10 +126,10 @@ module _ {N : Type 0} (n : sources.Ghosts N) (source : N) where
   IsCause None outcome = outcome ≡ Fails Words
   IsCause (Some asked) (Replies accepted text) = IsDone asked (Replies accepted text) × ReadsNfit (Some asked)
   IsCause (Some asked) (Fails Words) = ⊥
-  IsCause (Some asked) (Fails (Nfit fault)) = NeedsNfit (Some asked) × (TellsLeft n source → (length (n.left source) ≤ nfit_limit) × (table_of (n.left source) ≡ Err fault))
+  IsCause (Some asked) (Fails (Nfit fault)) = NeedsNfit (Some asked) × (TellsLeft n source → (length (n.left source) ≤ most_bytes) × (table_of (n.left source) ≡ Err fault))
   IsCause (Some asked) (Fails (Area dimm)) = IsDone asked (Fails (Area dimm)) × ReadsNfit (Some asked)
   IsCause (Some asked) (Fails Source) = NeedsNfit (Some asked)
-  IsCause (Some asked) (Fails Limit) = NeedsNfit (Some asked) × (TellsLeft n source → nfit_limit < length (n.left source))
+  IsCause (Some asked) (Fails Limit) = NeedsNfit (Some asked) × (TellsLeft n source → most_bytes < length (n.left source))
   IsCause (Some asked) (Fails Memory) = Unit {0}
 
 -- the same of the words of a run

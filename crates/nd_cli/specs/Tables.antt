@@ -5,7 +5,7 @@ use Rattle.nfit_tables.specs.declared.pieces.Nfit as tables
 use Rattle.nfit_tables.specs.Reading.{table_of}
 use Rattle.nd_cli.specs.declared.faults.Fault.{Fault}
 use Rattle.nd_cli.specs.declared.faults.Fault.TheVariants.{Words, Nfit, Area, Source, Limit, Memory}
-use Rattle.nd_cli.specs.Answers.{nfit_limit}
+use Rattle.nfit_tables.specs.Limits.{most_bytes}
 
 -- the source failed
 abbrev pub is_of_source : Fault → Bool
@@ -22,8 +22,8 @@ is_source_failed (Err fault) = is_of_source fault
 
 -- all bytes of the source, or there are more than an NFIT may have; nothing tells what failed
 abbrev pub ReadsAll : List ℕ → Result (Vec ℕ Global) Fault → Type 0
-ReadsAll left (Ok bytes) = (bytes.items ≡ left) × (length left ≤ nfit_limit)
-ReadsAll left (Err Limit) = nfit_limit < length left
+ReadsAll left (Ok bytes) = (bytes.items ≡ left) × (length left ≤ most_bytes)
+ReadsAll left (Err Limit) = most_bytes < length left
 ReadsAll left (Err Source) = Unit {0}
 ReadsAll left (Err Memory) = Unit {0}
 ReadsAll left (Err (Nfit fault)) = ⊥
@@ -32,9 +32,9 @@ ReadsAll left (Err (Area dimm)) = ⊥
 
 -- the NFIT that these bytes are, or why they are none
 abbrev pub ReadsTable : List ℕ → Result tables.Nfit Fault → Type 0
-ReadsTable left (Ok table) = (length left ≤ nfit_limit) × (table_of left ≡ Ok table)
-ReadsTable left (Err (Nfit fault)) = (length left ≤ nfit_limit) × (table_of left ≡ Err fault)
-ReadsTable left (Err Limit) = nfit_limit < length left
+ReadsTable left (Ok table) = (length left ≤ most_bytes) × (table_of left ≡ Ok table)
+ReadsTable left (Err (Nfit fault)) = (length left ≤ most_bytes) × (table_of left ≡ Err fault)
+ReadsTable left (Err Limit) = most_bytes < length left
 ReadsTable left (Err Source) = Unit {0}
 ReadsTable left (Err Memory) = Unit {0}
 ReadsTable left (Err Words) = ⊥

@@ -5,12 +5,12 @@ ghost use Rattle.rig_trait.specs.Sources.{Draws, TellsLeft};
 ghost use Rattle.nd_cli.specs.Tables.{IsTableFault, ReadsAll, ReadsTable, is_source_failed};
 
 use crate::faults::Fault;
-use nfit_tables::{Nfit, ReadNfit, read_nfit};
+use nfit_tables::{MOST_BYTES, Nfit, ReadNfit, read_nfit};
 use rig_trait::{Failed, Source};
 use std::alloc::Global;
 
-/// The most bytes of an NFIT.
-const LIMIT: usize = 1_048_576;
+/// The most bytes that are read.
+const LIMIT: usize = MOST_BYTES as usize;
 
 /// How many bytes are asked for at once.
 const CHUNK: usize = 4096;
