@@ -19,7 +19,7 @@ use Rattle.region_map.specs.Records.{all_control_fields, names_region, part_of, 
 use Rattle.region_map.specs.Rules.{first_rule, meets}
 use Rattle.region_map.specs.Platforms.{HoldsBy, IsRegionOf, IsSound, IsUnusable, IsUsableWith}
 use Rattle.region_map.specs.Sound.{AreApart, AreDisjoint, IsUsable}
-use Rattle.region_map.proofs.Tests.{fails_at, second_fails}
+use Rattle.region_map.proofs.Failing.{fails_at, second_fails}
 use Rattle.region_map.proofs.Passed.{passed}
 use Rattle.region_map.proofs.Usable.{members_hold, size_positive, usable}
 use Rattle.region_map.proofs.Zips.{zip_of}

@@ -1,5 +1,5 @@
 pub mod Zips
-pub mod Tests
+pub mod Failing
 pub mod Passed
 pub mod Members
 pub mod Usable

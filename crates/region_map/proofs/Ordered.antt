@@ -20,7 +20,7 @@ use Rattle.region_map.specs.declared.platform.Platform.{Platform}
 use Rattle.region_map.specs.Records.{all_control_fields, names_region, part_of, persistent_ranges, region_parts}
 use Rattle.region_map.specs.Platforms.{IsRegionOf, IsSound}
 use Rattle.region_map.specs.Sound.{AreOrdered}
-use Rattle.region_map.proofs.Tests.{once_pairs}
+use Rattle.region_map.proofs.Failing.{once_pairs}
 use Rattle.region_map.proofs.Zips.{zip_at, zip_length}
 
 -- the order of the ranges does not matter to the mappings that name one of them

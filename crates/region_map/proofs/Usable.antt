@@ -17,7 +17,7 @@ use Rattle.region_map.specs.Records.{IsAscending, member_of, member_with, parts_
 use Rattle.region_map.specs.Rules.{exceeds, first_rule}
 use Rattle.region_map.specs.Platforms.{HoldsBy, IsRegionOf, IsUsableWith}
 use Rattle.region_map.specs.Sound.{IsUsable}
-use Rattle.region_map.proofs.Tests.{all_fail, once_pairs}
+use Rattle.region_map.proofs.Failing.{all_fail, once_pairs}
 use Rattle.region_map.proofs.Passed.{Passed, passed}
 use Rattle.region_map.proofs.Members.{members_all, members_count, members_length}
 

@@ -418,6 +418,51 @@ fn orders(rt: HostRuntime) -> Result<(), Fail> {
     Ok(())
 }
 
+/// Regions of so many ways on modules 1, 2, .., and so many mappings of module 1 that name the last of them.
+fn many(alloc: Global, regions: u16, ways: u32, more: u32) -> Result<List<Piece>, AllocError> {
+    let mut pieces = List::new(alloc);
+    put_controls(alloc, &mut pieces)?;
+    for index in 0..regions {
+        let index = index.saturating_add(1);
+        let at = u64::from(index) * GIB;
+        put_ranges(
+            alloc,
+            &mut pieces,
+            &[(index, true, at, u64::from(ways) * 4096)],
+        )?;
+        for i in 0..ways {
+            let offset = u64::from(i) * 4096;
+            put_mappings(
+                alloc,
+                &mut pieces,
+                &[(i.saturating_add(1), index, 1, at, 4096, offset)],
+            )?;
+        }
+    }
+    for i in 0..more {
+        put_mappings(
+            alloc,
+            &mut pieces,
+            &[(1, regions, 1, u64::from(i), 4096, 0)],
+        )?;
+    }
+    Ok(pieces)
+}
+
+/// Tables of 1,048,504 and 1,048,488 bytes with all mappings on one module, and one of 64 regions of 16 ways.
+#[test]
+fn large_tables(rt: HostRuntime) -> Result<(), Fail> {
+    for (regions, ways, more) in [(0, 0, 21_831), (64, 1, 21_692), (64, 16, 0)] {
+        let pieces = many(rt.alloc(), regions, ways, more)?;
+        let platform = platform_of(rt.alloc(), pieces)?;
+        assert_eq!(rt; platform.regions.len(), usize::from(regions));
+        assert_eq!(rt; platform.modules.len(), ways.max(1) as usize);
+        let last = platform.region(64).map(|region| region.rule.is_some());
+        assert_eq!(rt; last.unwrap_or(true), more > 0, "{regions} {ways} {more}");
+    }
+    Ok(())
+}
+
 /// The law functions can be called.
 #[test]
 fn laws(_rt: HostRuntime) {
