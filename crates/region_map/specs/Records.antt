@@ -3,7 +3,7 @@ use Rattle.std.specs.Prelude.{◌≡◌, ℕ, ◌==◌, Bool, List, Option, Some
 use Rattle.std.specs.List.{filter_map, list_any}
 use Rattle.std.specs.List.Sorted.{IsNonDecreasingBy, IsPermutation}
 use Rattle.nfit_tables.specs.declared.pieces.Piece.{Piece}
-use Rattle.nfit_tables.specs.declared.pieces.Piece.TheVariants.{Range, Mapping, Interleave, Control, Kept}
+use Rattle.nfit_tables.specs.declared.pieces.Piece.TheVariants.{Range, Mapping, Interleave, Control}
 use Rattle.nfit_tables.specs.Proper.{is_region}
 use Rattle.region_map.specs.declared.records.PersistentRange.{PersistentRange}
 use Rattle.region_map.specs.declared.records.Part.{Part}
@@ -20,10 +20,7 @@ pub record IsAscending {X : Type 0} (key : X → ℕ) (items sorted : List X) : 
 abbrev pub persistent_range_of : Piece → Option PersistentRange
 persistent_range_of (Range p) =
     if is_region (Range p) then Some (record { index = p.index; base = p.base; length = p.length }) else None
-persistent_range_of (Mapping p) = None
-persistent_range_of (Interleave p) = None
-persistent_range_of (Control p) = None
-persistent_range_of (Kept p) = None
+persistent_range_of _ = None
 
 abbrev pub persistent_ranges : List Piece → List PersistentRange
 persistent_ranges pieces = filter_map persistent_range_of pieces
@@ -40,10 +37,7 @@ part_of (Mapping p) = Some (record {
   interleave = p.interleave_index;
   ways = p.ways;
 })
-part_of (Range p) = None
-part_of (Interleave p) = None
-part_of (Control p) = None
-part_of (Kept p) = None
+part_of _ = None
 
 -- the index that a mapping names is that of a region
 abbrev pub names_region : List PersistentRange → Part → Bool
@@ -68,10 +62,7 @@ control_fields_of (Control p) =
       date = p.manufacturing_date;
       location = p.manufacturing_location;
     })
-control_fields_of (Range p) = None
-control_fields_of (Mapping p) = None
-control_fields_of (Interleave p) = None
-control_fields_of (Kept p) = None
+control_fields_of _ = None
 
 abbrev pub all_control_fields : List Piece → List ControlFields
 all_control_fields pieces = filter_map control_fields_of pieces
@@ -103,10 +94,7 @@ member_of controls part = option_map (member_with part) (control_named controls 
 abbrev pub line_table_of : Piece → Option LineTable
 line_table_of (Interleave p) =
     if p.index == 0 then None else Some (record { index = p.index; size = p.line_size; lines = p.lines })
-line_table_of (Range p) = None
-line_table_of (Mapping p) = None
-line_table_of (Control p) = None
-line_table_of (Kept p) = None
+line_table_of _ = None
 
 abbrev pub line_tables : List Piece → List LineTable
 line_tables pieces = filter_map line_table_of pieces

@@ -20,12 +20,12 @@ pub fn regions_by_index()
 
 /// What is known of a region that can be used.
 pub fn usable_regions()
-    ensures { (platform : Platform) (region : Region) → IsSound platform → Contains platform.regions region
-        → region.rule ≡ None → IsUsable platform region }
+    ensures { (platform : Platform) (region : Region) → IsSound platform
+        → Contains platform.regions region → region.rule ≡ None → IsUsable platform region }
 {}
 
 /// A region that cannot be used has no members.
 pub fn unusable_regions()
-    ensures { (platform : Platform) (region : Region) (rule : Rule) → IsSound platform → Contains platform.regions region
-        → region.rule ≡ Some rule → IsUnusable region }
+    ensures { (platform : Platform) (region : Region) (rule : Rule) → IsSound platform
+        → Contains platform.regions region → region.rule ≡ Some rule → IsUnusable region }
 {}

@@ -10,8 +10,8 @@ use nfit_tables::Nfit;
 use std::alloc::{AllocError, Global};
 use view_types::{List, Rule};
 
-/// A module's part of a region: a region mapping (ACPI 6.2, section 5.2.25.3) with fields of its control region (section
-/// 5.2.25.6). Addresses, sizes and offsets are in bytes.
+/// A module's part of a region: a region mapping (ACPI 6.2, section 5.2.25.3) with fields of its control region
+/// (section 5.2.25.6). Addresses, sizes and offsets are in bytes.
 #[derive(Clone, Copy, Debug, PartialEq, Eq)]
 pub struct Member {
     /// The device handle of the module.
@@ -36,7 +36,8 @@ pub struct Member {
     pub location: u8,
 }
 
-/// A range of system physical addresses (SPA) of persistent memory with an index above 0 (ACPI 6.2, section 5.2.25.2).
+/// A range of system physical addresses (SPA) of persistent memory with an index above 0 (ACPI 6.2, section
+/// 5.2.25.2).
 #[derive(Drop)]
 pub struct Region {
     /// The index of the range, from 1 on: the region's name.

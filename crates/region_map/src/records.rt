@@ -82,7 +82,8 @@ pub(crate) fn parts_of_ranges(
     pieces: &[Piece],
     ranges: &[PersistentRange],
 ) -> Result<Vec<Part>, AllocError>
-    ensures { IfOk result (λ parts. parts.items ≡ filter (names_region ranges.now) (filter_map part_of pieces.now)) }
+    ensures { IfOk result
+        (λ parts. parts.items ≡ filter (names_region ranges.now) (filter_map part_of pieces.now)) }
 {
     pieces
         .iter()

@@ -64,7 +64,8 @@ fn members_by_offset(
     controls: &[ControlFields],
     parts: &[Part],
 ) -> Result<Vec<Member>, AllocError>
-    ensures { IfOk result (λ members. IsAscending (λ m. m.region_offset) (filter_map (member_of controls.now) parts.now) members.items) }
+    ensures { let found = filter_map (member_of controls.now) parts.now in
+        IfOk result (λ members. IsAscending (λ m. m.region_offset) found members.items) }
 {
     let mut members = all_members(alloc, controls, parts)?;
     members.sort_unstable_by_key(|member| member.region_offset);

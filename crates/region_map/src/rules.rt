@@ -13,7 +13,8 @@ const MOST_WAYS: usize = 16;
 /// The greatest end of an address range, in bytes.
 const MOST_END: u64 = 1 << 63;
 
-/// The first rule that applies to a range and the mappings that name it. `parts` are the mappings that name any region.
+/// The first rule that applies to a range and the mappings that name it. `parts` are the mappings that name any
+/// region.
 pub(crate) fn first_rule(
     parts: &[Part],
     controls: &[ControlFields],

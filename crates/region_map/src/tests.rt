@@ -1,3 +1,5 @@
+ghost use Rattle.std.specs.Prelude.{◌<◌, ◌≤◌};
+
 use super::*;
 use nfit_tables::{
     ControlPiece, Header, InterleavePiece, MappingPiece, Nfit, Piece, RangePiece, fits, read_nfit,
@@ -15,7 +17,7 @@ const BASE: u64 = 4 * GIB;
 /// An index, whether the range is one of persistent memory, the base and the length.
 type Range = (u16, bool, u64, u64);
 
-/// The handle, the index of the range, that of the control region, the address in the module, the size and the offset.
+/// The handle, the index of the range, that of the control region, the address in the module, the size, the offset.
 type Mapping = (u32, u16, u16, u64, u64, u64);
 
 fn put_ranges(alloc: Global, pieces: &mut List<Piece>, ranges: &[Range]) -> Result<(), AllocError> {
@@ -206,61 +208,63 @@ const RULES: [Rule; 10] = [
     Rule::DpaOverlap,
 ];
 
-/// The rule of a range of two mappings of 4,096 bytes that is spoiled in these ways.
-fn spoiled(alloc: Global, by: &[Rule]) -> Result<Option<Rule>, &'static str> {
-    let has = |rule| by.contains(&rule);
-    let ways: u32 = if has(Rule::NoMapping) {
+/// Mapping i of a region that is spoiled in these ways.
+fn spoiled_mapping(by: &[Rule], i: u32, size: u64) -> Mapping
+    requires { i < 17 }
+{
+    let is_second = i == 1;
+    let is_larger = is_second && size > 0 && by.contains(&Rule::SizesDiffer);
+    let is_other_module = !by.contains(&Rule::ModuleTwice);
+    let is_behind = !by.contains(&Rule::OffsetTwice);
+    let has_no_control = is_second && by.contains(&Rule::NoControl);
+    (
+        if is_other_module { i + 1 } else { 1 },
+        1,
+        if has_no_control { 99 } else { 1 },
+        0,
+        if is_larger { 4097 } else { size },
+        if is_behind { u64::from(i) } else { 0 },
+    )
+}
+
+/// How many mappings it has.
+fn spoiled_ways(by: &[Rule]) -> u16
+    ensures { result ≤ 17 }
+{
+    if by.contains(&Rule::NoMapping) {
         0
-    } else if has(Rule::TooManyWays) {
+    } else if by.contains(&Rule::TooManyWays) {
         17
     } else {
         2
-    };
-    let whole = u64::from(ways) * 4096;
-    let length = if has(Rule::Empty) {
+    }
+}
+
+/// The rule of a range of two mappings of 4,096 bytes that is spoiled in these ways.
+fn spoiled(alloc: Global, by: &[Rule]) -> Result<Option<Rule>, &'static str> {
+    let is_empty = by.contains(&Rule::Empty);
+    let ways = spoiled_ways(by);
+    // the members of a range without bytes have none either, where that alone is to be wrong
+    let size = if is_empty && by.len() == 1 { 0 } else { 4096 };
+    let more = u64::from(by.contains(&Rule::CapacityDiffers));
+    let length = if is_empty {
         0
-    } else if has(Rule::CapacityDiffers) {
-        whole + 1
     } else {
-        whole
+        u64::from(ways) * 4096 + more
     };
-    // of a range without bytes alone the members have none either
-    let size = if has(Rule::Empty) && by.len() == 1 {
-        0
-    } else {
-        4096
-    };
-    let base = if has(Rule::Overflow) {
+    let base = if by.contains(&Rule::Overflow) {
         (1 << 63) + 1
     } else {
         BASE
     };
     let mut mappings = Vec::new(alloc);
-    for i in 0..ways {
-        let is_second = i == 1;
-        let mapping = (
-            if has(Rule::ModuleTwice) { 1 } else { i + 1 },
-            1,
-            if has(Rule::NoControl) && is_second {
-                99
-            } else {
-                1
-            },
-            0,
-            if has(Rule::SizesDiffer) && is_second {
-                size + 1
-            } else {
-                size
-            },
-            if has(Rule::OffsetTwice) {
-                0
-            } else {
-                u64::from(i) * 4096
-            },
-        );
-        mappings.push(mapping).ok().ok_or("no memory")?;
+    for i in 0..u32::from(ways) {
+        mappings
+            .push(spoiled_mapping(by, i, size))
+            .ok()
+            .ok_or("no memory")?;
     }
-    if has(Rule::DpaOverlap) {
+    if by.contains(&Rule::DpaOverlap) {
         mappings
             .push((1, 2, 1, 4095, 4096, 0))
             .ok()
@@ -358,63 +362,77 @@ fn neighbours(rt: HostRuntime) -> Result<(), Fail> {
     Ok(())
 }
 
-/// 16 members in another order in the table than by offset, and one more; ranges, modules and line tables in another order.
+/// A region of so many ways, its mappings by descending offset; a region, line tables and modules in no order.
+fn unordered(alloc: Global, ways: u16) -> Result<List<Piece>, AllocError> {
+    let mut pieces = List::new(alloc);
+    put_lines(alloc, &mut pieces, 7, &[])?;
+    put_lines(alloc, &mut pieces, 0, &[5])?;
+    put_lines(alloc, &mut pieces, 1, &[0, 2])?;
+    for i in 0..ways {
+        let offset = u64::from(ways - i) * 4096;
+        put_mappings(
+            alloc,
+            &mut pieces,
+            &[(u32::from(ways - i), 1, 1, 0, 4096, offset)],
+        )?;
+    }
+    put_mappings(
+        alloc,
+        &mut pieces,
+        &[(0x300, 0, 0, 0, 0, 0), (1, 9, 0, 0, 0, 0)],
+    )?;
+    put_ranges(
+        alloc,
+        &mut pieces,
+        &[(7, true, 8 * GIB, 0), (5, false, 0, 0)],
+    )?;
+    put_ranges(
+        alloc,
+        &mut pieces,
+        &[(1, true, BASE, u64::from(ways) * 4096)],
+    )?;
+    put_controls(alloc, &mut pieces)?;
+    Ok(pieces)
+}
+
+/// Regions by index, members by offset, modules by handle, also one that names no region, and line tables by index.
 #[test]
 fn orders(rt: HostRuntime) -> Result<(), Fail> {
-    for (ways, rule) in [(16, None), (17, Some(Rule::TooManyWays))] {
-        let mut pieces = List::new(rt.alloc());
-        put_lines(rt.alloc(), &mut pieces, 7, &[])?;
-        put_lines(rt.alloc(), &mut pieces, 0, &[5])?;
-        put_lines(rt.alloc(), &mut pieces, 1, &[0, 2])?;
-        for i in 0..ways {
-            let offset = u64::from(ways - i) * 4096;
-            put_mappings(rt.alloc(), &mut pieces, &[(100 - i, 1, 1, 0, 4096, offset)])?;
-        }
-        put_mappings(
-            rt.alloc(),
-            &mut pieces,
-            &[(3, 0, 0, 0, 0, 0), (100, 9, 0, 0, 0, 0)],
-        )?;
-        put_ranges(
-            rt.alloc(),
-            &mut pieces,
-            &[(7, true, 8 * GIB, 0), (5, false, 0, 0)],
-        )?;
-        put_ranges(
-            rt.alloc(),
-            &mut pieces,
-            &[(1, true, BASE, u64::from(ways) * 4096)],
-        )?;
-        put_controls(rt.alloc(), &mut pieces)?;
-        let platform = platform_of(rt.alloc(), pieces)?;
+    let platform = platform_of(rt.alloc(), unordered(rt.alloc(), 16)?)?;
+    let indices: Vec<u16> = platform
+        .regions
+        .as_slice()
+        .iter()
+        .map(|r| r.index)
+        .collect(rt.alloc())?;
+    assert_eq!(rt; indices.as_slice(), [1, 7].as_slice());
+    let region = platform.region(1).ok_or("there is no region 1")?;
+    let offsets: Vec<u64> = region
+        .members
+        .as_slice()
+        .iter()
+        .map(|m| m.region_offset / 4096)
+        .collect(rt.alloc())?;
+    assert_eq!(rt;
+        offsets.as_slice(),
+        [1, 2, 3, 4, 5, 6, 7, 8, 9, 10, 11, 12, 13, 14, 15, 16].as_slice()
+    );
+    assert_eq!(rt; platform.modules.len(), 17);
+    assert_eq!(rt; platform.modules.get(16).copied(), Some(0x300));
+    let tables: Vec<(u16, usize)> = platform
+        .tables
+        .as_slice()
+        .iter()
+        .map(|t| (t.index, t.lines.len()))
+        .collect(rt.alloc())?;
+    assert_eq!(rt; tables.as_slice(), [(1, 2), (7, 0)].as_slice());
 
-        let mut indices = platform.regions.as_slice().iter().map(|r| r.index);
-        assert_eq!(rt;
-            (indices.next(), indices.next(), indices.next()),
-            (Some(1), Some(7), None)
-        );
-        let region = platform.region(1).ok_or("there is no region 1")?;
-        assert_eq!(rt; region.rule, rule);
-        let members = region.members.as_slice();
-        assert_eq!(rt; members.len(), if rule.is_none() { 16 } else { 0 });
-        assert_eq!(rt; region.cookie == 0, rule.is_some());
-        let ascend = members.windows(2).all(|w| w.len() == 2
-            && w[0].region_offset < w[1].region_offset);
-        assert_eq!(rt; ascend, true);
-
-        let modules = platform.modules.as_slice();
-        assert_eq!(rt; modules.len() as u32, ways + 1);
-        assert_eq!(rt; (modules.first(), modules.last()), (Some(&3), Some(&100)));
-        let mut tables = platform
-            .tables
-            .as_slice()
-            .iter()
-            .map(|t| (t.index, t.size, t.lines.len()));
-        assert_eq!(rt;
-            (tables.next(), tables.next(), tables.next()),
-            (Some((1, 4096, 2)), Some((7, 4096, 0)), None)
-        );
-    }
+    let platform = platform_of(rt.alloc(), unordered(rt.alloc(), 17)?)?;
+    let region = platform.region(1).ok_or("there is no region 1")?;
+    assert_eq!(rt;
+        (region.rule, region.members.len(), region.cookie),
+        (Some(Rule::TooManyWays), 0, 0)
+    );
     Ok(())
 }
 
