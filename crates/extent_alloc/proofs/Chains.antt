@@ -47,6 +47,24 @@ times-here l ls i = cond {A = ℕ} (same_number l.at i) 1 0 + times l.at ls
 pub times-later : (k : ℕ) (l : Link) (ls : List Link) → times k ls ≤ times k (l ∷ ls)
 times-later k l ls = omega arith
 
+times-apart : (k : ℕ) (l : Link) (ls : List Link) → l.at < k → times k (l ∷ ls) ≡ times k ls
+times-apart k l ls lt =
+    let other : (l.at == k) ≡ false = grind (arith, nat_tests) in
+    (λ i. cond {A = ℕ} (other i) 1 0 + times k ls) ∙ omega arith
+
+beyond_step : (nodes : List Node) (n k at : ℕ) → length nodes ≤ k → ((next : Option ℕ) → times k (links_from nodes n next) ≡ 0)
+    → (o : Option Node) → slice_get nodes at ≡ o → times k (links_from nodes (suc n) (Some at)) ≡ 0
+beyond_step nodes n k at past below None e = ap (times k) (links_from-none nodes n at e)
+beyond_step nodes n k at past below (Some node) e =
+    let within : at < length nodes = slice_get_within nodes at node e in
+    ap (times k) (links_from-some nodes n at node e) ∙ times-apart k (record { at = at; extent = node.extent }) (links_from nodes n node.after) (omega arith) ∙ below node.after
+
+-- no index past the nodes is in a chain
+pub times-beyond : (nodes : List Node) (n : ℕ) (next : Option ℕ) (k : ℕ) → length nodes ≤ k → times k (links_from nodes n next) ≡ 0
+times-beyond nodes zero next k past = refl
+times-beyond nodes (suc n) None k past = refl
+times-beyond nodes (suc n) (Some at) k past = beyond_step nodes n k at past (λ next. times-beyond nodes n next k past) (slice_get nodes at) refl
+
 -- what every node of a chain keeps
 abbrev pub Keeps : List Node → List Node → List Link → Type 0
 Keeps old new ls = (k : ℕ) (node : Node) → 0 < times k ls → slice_get old k ≡ Some node → slice_get new k ≡ Some node

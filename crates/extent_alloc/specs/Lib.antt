@@ -1,3 +1,6 @@
+pub mod Chain
 pub mod Chains
+pub mod Changes
+pub mod Linked
 pub mod Pool
 pub mod Pooled

@@ -131,6 +131,7 @@ impl Pool {
 
     /// Makes one more spare node.
     pub(crate) fn add_node(&mut self) -> Result<(), AllocError>
+        ensures fresh { OnOk result (times (length self.old.nodes) self.old.idle ≡ 0) }
         ensures given { OnOk result (first_at self.new.idle ≡ Some (length self.old.nodes)) }
         ensures rest { OnOk result (drop 1 self.new.idle ≡ self.old.idle) }
         ensures len { OnOk result (length self.new.nodes ≡ length self.old.nodes + 1) }

@@ -1,7 +1,7 @@
 use Rattle.std.proofs.Common.{◌≡◌, ◌∙◌, ap, length, arith, ◌+◌, Some, slice_get, refl, drop, sym, length-append}
 use Rattle.extent_alloc.specs.Pool.{Nodes}
-use Rattle.extent_alloc.specs.Chains.{first_at, links_from}
-use Rattle.extent_alloc.proofs.Chains.{links_from-added, slice_get-append}
+use Rattle.extent_alloc.specs.Chains.{first_at, links_from, times}
+use Rattle.extent_alloc.proofs.Chains.{links_from-added, times-beyond, slice_get-append}
 use Rattle.extent_alloc.proofs.pool.Pool.add_node.Goals as goal
 
 pub invariant_of-self-2 : goal.invariant_of-self-2
@@ -37,3 +37,9 @@ returns-clause-others c k lt =
     ap (λ ns. slice_get ns k) c.in_ok-push.ensures.items
     ∙ slice_get-append c.self.inside.nodes.items _ k (omega (arith, len))
     ∙ ap (λ (n : Nodes). slice_get n.nodes k) c.self.view_is
+
+pub returns-clause-fresh : goal.returns-clause-fresh
+returns-clause-fresh c =
+    let pool = c.self.inside in
+    ap (λ (n : Nodes). times (length n.nodes) n.idle) (sym c.self.view_is)
+    ∙ times-beyond pool.nodes.items pool.spare_len pool.spare (length pool.nodes.items) (omega arith)
