@@ -2,6 +2,7 @@
 #![tactic(auto)]
 
 mod chain;
+mod fits;
 mod iter;
 mod pool;
 mod steps;

@@ -16,6 +16,11 @@ abbrev pub is_free : List Extent → ℕ → Bool
 is_free [] o = false
 is_free (e ∷ es) o = is_within e.start e.len o || is_free es o
 
+-- a range lies in the extent
+pub record IsInside (e : Extent) (start len : ℕ) : Type 0 where
+  pub starts : e.start ≤ start
+  pub ends : start + len ≤ end_of e
+
 -- each offset of the range is free
 abbrev pub AllFree : (ℕ → Bool) → ℕ → ℕ → Type 0
 AllFree free start len = (o : ℕ) → start ≤ o → o < start + len → free o ≡ true
