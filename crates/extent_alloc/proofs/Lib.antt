@@ -1,8 +1,10 @@
 pub mod Chains
 pub mod Changes
-pub mod Cuts
 pub mod Growing
 pub mod Inserting
 pub mod Linked
+pub mod Passing
+pub mod Placing
 pub mod Removing
 pub mod Resetting
+pub mod Unwinding

@@ -10,7 +10,7 @@ use Rattle.extent_alloc.specs.Chains.{links_from, first_at, times, unwind}
 use Rattle.extent_alloc.specs.Linked.{AreLinked, links_in, IsDoublyLinked}
 use Rattle.extent_alloc.specs.Changes.{after_as, before_as}
 use Rattle.extent_alloc.proofs.Chains.{Keeps, links_from-some, times-here, times-later}
-use Rattle.extent_alloc.proofs.Cuts.{Cut, cut_from, first_at-unwind, times-other, times-unwind, times-first}
+use Rattle.extent_alloc.proofs.Unwinding.{Cut, cut_from, first_at-unwind, times-other, times-unwind, times-first}
 
 -- the same, from the last link on
 abbrev pub AreLinkedBack : List Node → Option ℕ → List Link → Type 0

@@ -12,7 +12,7 @@ use Rattle.extent_alloc.specs.Changes.{ChangesAt, after_as, before_as}
 use Rattle.extent_alloc.specs.Linked.{AreLinked, links_in, IsDoublyLinked}
 use Rattle.extent_alloc.proofs.Chains.{Keeps, times-here, times-later, slice_get-set_same, slice_get-set_other, keeps_set}
 use Rattle.extent_alloc.proofs.Changes.{keeps_trans, keeps_change, keeps_others}
-use Rattle.extent_alloc.proofs.Cuts.{length-unwind, times-unwind, first_at-unwind, times-first, times-taken, times-drop, length-taken}
+use Rattle.extent_alloc.proofs.Unwinding.{length-unwind, times-unwind, first_at-unwind, times-first, times-taken, times-drop, length-taken}
 use Rattle.extent_alloc.proofs.Linked.{AreLinkedAt, linked_at, linked, behind_changed, ahead_changed, first_changed, linked_keeps, within_behind, within_ahead, node_at, Becomes, becomes}
 
 pub removed : (chain new : Inside) (at : ℕ) (node : Node) (led back : List Node) → IsDoublyLinked chain → slice_get chain.pool.nodes at ≡ Some node

@@ -9,7 +9,7 @@ use Rattle.extent_alloc.specs.declared.chain.Chain.TheInside.{Inside}
 use Rattle.extent_alloc.specs.Chains.{first_at, times, unwind}
 use Rattle.extent_alloc.specs.Linked.{AreLinked, links_in, IsDoublyLinked}
 use Rattle.extent_alloc.proofs.Chains.{times-here, slice_get-set_same, keeps_set}
-use Rattle.extent_alloc.proofs.Cuts.{length-unwind, times-unwind, first_at-unwind}
+use Rattle.extent_alloc.proofs.Unwinding.{length-unwind, times-unwind, first_at-unwind}
 use Rattle.extent_alloc.proofs.Linked.{AreLinkedAt, linked_at, linked, linked_keeps, linked_back_keeps, node_at, Becomes, becomes}
 
 pub extent_set : (chain new : Inside) (at : ℕ) (node : Node) (to : Extent) → IsDoublyLinked chain

@@ -1,7 +1,10 @@
 pub mod Chain
 pub mod Chains
 pub mod Changes
+pub mod Cuts
 pub mod Fits
+pub mod Free
 pub mod Linked
 pub mod Pool
 pub mod Pooled
+pub mod Shown

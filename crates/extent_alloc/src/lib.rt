@@ -2,10 +2,13 @@
 #![tactic(auto)]
 
 mod chain;
+mod cuts;
+mod extents;
 mod fits;
 mod iter;
 mod pool;
 mod steps;
 
+pub use extents::Extents;
 pub use iter::Iter;
 pub use steps::Steps;

@@ -30,11 +30,11 @@ abbrev pub NoneFree : (ℕ → Bool) → ℕ → ℕ → Type 0
 NoneFree free start len = (o : ℕ) → start ≤ o → o < start + len → free o ≡ false
 
 -- the free offsets without those of a range, and with those of a range
-abbrev pub without : (ℕ → Bool) → ℕ → ℕ → ℕ → Bool
-without free start len o = free o && not (is_within start len o)
+abbrev pub without_range : (ℕ → Bool) → ℕ → ℕ → ℕ → Bool
+without_range free start len o = free o && not (is_within start len o)
 
-abbrev pub with : (ℕ → Bool) → ℕ → ℕ → ℕ → Bool
-with free start len o = free o || is_within start len o
+abbrev pub with_range : (ℕ → Bool) → ℕ → ℕ → ℕ → Bool
+with_range free start len o = free o || is_within start len o
 
 -- the extents ascend from an offset on and end by the whole's end; none is empty, and no two touch
 abbrev pub Ascend : ℕ → ℕ → List Extent → Type 0

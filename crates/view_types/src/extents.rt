@@ -17,4 +17,16 @@ impl Extent {
     {
         self.start + self.len
     }
+
+    /// The extent with the offsets of another one that begins where it ends.
+    pub fn joined(&self, next: &Extent) -> Extent
+        requires touching { next.now.start ≡ self.now.start + self.now.len }
+        requires fits { self.now.len + next.now.len < 2 ^ 64 }
+        ensures { result ≡ record { start = self.now.start; len = self.now.len + next.now.len } }
+    {
+        Extent {
+            start: self.start,
+            len: self.len + next.len,
+        }
+    }
 }

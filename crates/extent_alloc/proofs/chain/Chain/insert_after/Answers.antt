@@ -7,7 +7,7 @@ use Rattle.extent_alloc.specs.Chain.{Links}
 use Rattle.extent_alloc.specs.Changes.{ChangesAt, after_as}
 use Rattle.extent_alloc.specs.Chains.{times, extents_of}
 use Rattle.extent_alloc.specs.Linked.{links_in}
-use Rattle.extent_alloc.proofs.Cuts.{CutAfter, cut_after, extents_of-unwind, times-drop, times-first}
+use Rattle.extent_alloc.proofs.Unwinding.{CutAfter, cut_after, extents_of-unwind, times-drop, times-first}
 use Rattle.extent_alloc.proofs.Linked.{in_use, IsInUse, in_use_ahead}
 use Rattle.extent_alloc.proofs.Inserting.{inserted, after_is}
 use Rattle.extent_alloc.proofs.chain.Chain.insert_after.Goals as goal

@@ -4,7 +4,7 @@ use Rattle.extent_alloc.specs.declared.chain.Chain.TheInside.{Inside}
 use Rattle.extent_alloc.specs.Chain.{Links}
 use Rattle.extent_alloc.specs.Chains.{times}
 use Rattle.extent_alloc.specs.Linked.{links_in}
-use Rattle.extent_alloc.proofs.Cuts.{Cut, cut_from, some_links}
+use Rattle.extent_alloc.proofs.Unwinding.{Cut, cut_from, some_links}
 use Rattle.extent_alloc.proofs.Linked.{in_use, IsInUse, neighbours_in_use}
 use Rattle.extent_alloc.proofs.Removing.{removed}
 use Rattle.extent_alloc.proofs.chain.Chain.remove.Goals as goal

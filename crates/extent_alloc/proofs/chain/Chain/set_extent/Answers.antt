@@ -1,7 +1,7 @@
 use Rattle.std.proofs.Common.{◌≡◌, ◌<◌, [], sym, ap, ◌∙◌, subst, refl}
 use Rattle.extent_alloc.specs.Chain.{Links}
 use Rattle.extent_alloc.specs.Chains.{times}
-use Rattle.extent_alloc.proofs.Cuts.{Cut, cut_from}
+use Rattle.extent_alloc.proofs.Unwinding.{Cut, cut_from}
 use Rattle.extent_alloc.specs.Linked.{links_in}
 use Rattle.extent_alloc.proofs.Linked.{in_use}
 use Rattle.extent_alloc.proofs.Resetting.{extent_set}
