@@ -23,8 +23,8 @@ grown chain new h first len fresh given rest size others =
     let ls : List Link = links_in chain in
     let keeps : Keeps chain.pool.nodes new.pool.nodes ls = λ k node some e. others k (slice_get_within chain.pool.nodes k node e) ∙ e in
     becomes new ls (linked_keeps chain.pool.nodes new.pool.nodes None ls keeps h.linked) (first ∙ h.first) (len ∙ h.len)
-        (λ k lt. by k (cases_lt k n) lt)
-        (omega (arith, len, h.all, size, length-taken n new.pool.idle given, ap length rest))
+    (λ k lt. by k (cases_lt k n) lt)
+    (omega (arith, len, h.all, size, length-taken n new.pool.idle given, ap length rest))
   where
     by : (k : ℕ) → (k < length chain.pool.nodes) ⊎ (length chain.pool.nodes ≤ k) → k < length new.pool.nodes → times k (links_in chain) + times k new.pool.idle ≡ 1
     by k (inl lt) more =

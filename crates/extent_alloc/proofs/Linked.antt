@@ -89,7 +89,7 @@ pub in_use : (chain : Inside) (at : ℕ) → IsDoublyLinked chain → 0 < times 
 in_use chain at h some =
     let cut : Cut at (links_in chain) = cut_from at [] (links_in chain) some in
     let within : at < length chain.pool.nodes =
-        slice_get_within chain.pool.nodes at _ (node_at chain.pool.nodes at cut.extent cut.done cut.rest (links_in chain) h.linked cut.is) in
+    slice_get_within chain.pool.nodes at _ (node_at chain.pool.nodes at cut.extent cut.done cut.rest (links_in chain) h.linked cut.is) in
     record { within = within; in_use = omega (arith, h.once at within) }
 
 -- the links around a place change, and those behind and ahead of them stay
@@ -155,7 +155,7 @@ neighbours_in_use chain at node h read some k which =
     let cut : Cut at (links_in chain) = cut_from at [] (links_in chain) some in
     let link : Link = record { at = at; extent = cut.extent } in
     let there : slice_get chain.pool.nodes at ≡ Some (record { extent = cut.extent; before = first_at cut.done; after = first_at cut.rest }) =
-        node_at chain.pool.nodes at cut.extent cut.done cut.rest (links_in chain) h.linked cut.is in
+    node_at chain.pool.nodes at cut.extent cut.done cut.rest (links_in chain) h.linked cut.is in
     let is : node ≡ record { extent = cut.extent; before = first_at cut.done; after = first_at cut.rest } = cc in
     elim which [
       | inl before ↦ in_use_behind chain cut.done (link ∷ cut.rest) h cut.is k (ap (λ (x : Node). x.before) (sym is) ∙ before)

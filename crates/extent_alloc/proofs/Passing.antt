@@ -32,8 +32,8 @@ ascend_ahead from whole (d ∷ done) rest up =
 pub ends_inside : (whole : ℕ) (links done rest : List Link) (l : Link) → Ascend 0 whole (extents_of links) → links ≡ unwind done (l ∷ rest) → end_of l.extent ≤ whole
 ends_inside whole links done rest l up is =
     let ahead : Ascend 0 whole (l.extent ∷ extents_of rest) =
-        ascend_ahead 0 whole (extents_of done) (l.extent ∷ extents_of rest)
-            (subst (Ascend 0 whole) (ap extents_of is ∙ extents_of-unwind done (l ∷ rest)) up) in
+    ascend_ahead 0 whole (extents_of done) (l.extent ∷ extents_of rest)
+    (subst (Ascend 0 whole) (ap extents_of is ∙ extents_of-unwind done (l ∷ rest)) up) in
     ahead.2
 
 pub some_here : (at : ℕ) (e : Extent) (links done rest : List Link) → links ≡ unwind done (record { at = at; extent = e } ∷ rest) → 0 < times at links

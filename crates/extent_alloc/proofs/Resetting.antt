@@ -31,16 +31,16 @@ extent_set chain new at node to h read nodes idle first len done rest e is =
     let none_behind : times at done ≡ 0 = omega (arith, count at, times-here link rest) in
     let none_ahead : times at rest ≡ 0 = omega (arith, count at, times-here link rest) in
     let written_at : slice_get (slice_set nodes_was at written) at ≡ Some (record { extent = to; before = first_at done; after = first_at rest }) =
-        slice_get-set_same nodes_was at written within ∙ (λ i. Some (record { extent = to; before = (node_is i).before; after = (node_is i).after })) in
+    slice_get-set_same nodes_was at written within ∙ (λ i. Some (record { extent = to; before = (node_is i).before; after = (node_is i).after })) in
     let zip_new : AreLinkedAt (slice_set nodes_was at written) done (link_new ∷ rest) = record {
       behind = linked_back_keeps nodes_was (slice_set nodes_was at written) (Some at) done (keeps_set nodes_was at written done none_behind) zip.behind;
       ahead = (written_at, linked_keeps nodes_was (slice_set nodes_was at written) (Some at) rest (keeps_set nodes_was at written rest none_ahead) zip.ahead.1);
     } in
     let size : length new.pool.nodes ≡ length nodes_was = ap length nodes ∙ length-set nodes_was at written in
     becomes new (unwind done (link_new ∷ rest))
-        (subst (λ ns. AreLinked ns None (unwind done (link_new ∷ rest))) (sym nodes) (linked (slice_set nodes_was at written) done (link_new ∷ rest) zip_new))
-        (first ∙ h.first ∙ ap first_at is ∙ first_at-unwind done (link ∷ rest) (link_new ∷ rest) refl)
-        (len ∙ h.len ∙ ap length is ∙ length-unwind done (link ∷ rest) ∙ sym (length-unwind done (link_new ∷ rest)))
-        (λ k lt. (λ i. times k (unwind done (link_new ∷ rest)) + times k (idle i)) ∙ ap (λ n. n + times k chain.pool.idle) (times-unwind k done (link_new ∷ rest) ∙ sym (count k))
-            ∙ h.once k (subst (λ n. k < n) size lt))
-        ((λ i. len i + length (idle i)) ∙ h.all ∙ sym size)
+    (subst (λ ns. AreLinked ns None (unwind done (link_new ∷ rest))) (sym nodes) (linked (slice_set nodes_was at written) done (link_new ∷ rest) zip_new))
+    (first ∙ h.first ∙ ap first_at is ∙ first_at-unwind done (link ∷ rest) (link_new ∷ rest) refl)
+    (len ∙ h.len ∙ ap length is ∙ length-unwind done (link ∷ rest) ∙ sym (length-unwind done (link_new ∷ rest)))
+    (λ k lt. (λ i. times k (unwind done (link_new ∷ rest)) + times k (idle i)) ∙ ap (λ n. n + times k chain.pool.idle) (times-unwind k done (link_new ∷ rest) ∙ sym (count k))
+    ∙ h.once k (subst (λ n. k < n) size lt))
+    ((λ i. len i + length (idle i)) ∙ h.all ∙ sym size)

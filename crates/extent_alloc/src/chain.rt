@@ -83,10 +83,8 @@ impl Chain {
     /// The node of an extent, in one step.
     pub(crate) fn node<L: Ledger>(&self, at: usize, steps: &mut Steps<L>) -> Node
         requires { 0 < times at self.now.links }
-        ensures node {
-          (done rest : List Link) (e : Extent) → self.now.links ≡ unwind done (record { at = at; extent = e } ∷ rest)
-            → result ≡ record { extent = e; before = first_at done; after = first_at rest }
-        }
+        ensures node { (done rest : List Link) (e : Extent) → self.now.links ≡ unwind done (record { at = at; extent = e } ∷ rest)
+            → result ≡ record { extent = e; before = first_at done; after = first_at rest } }
         ensures step { steps.new ≡ steps.old + 1 }
     {
         self.pool.node(at, steps)
@@ -95,10 +93,8 @@ impl Chain {
     /// Puts another extent into a node, in two steps.
     pub(crate) fn set_extent<L: Ledger>(&mut self, at: usize, extent: Extent, steps: &mut Steps<L>)
         requires { 0 < times at self.old.links }
-        ensures links {
-          (done rest : List Link) (e : Extent) → self.old.links ≡ unwind done (record { at = at; extent = e } ∷ rest)
-            → self.new.links ≡ unwind done (record { at = at; extent = extent } ∷ rest)
-        }
+        ensures links { (done rest : List Link) (e : Extent) → self.old.links ≡ unwind done (record { at = at; extent = e } ∷ rest)
+            → self.new.links ≡ unwind done (record { at = at; extent = extent } ∷ rest) }
         ensures spare { self.new.spare ≡ self.old.spare }
         ensures steps { steps.new ≤ steps.old + 2 }
     {
@@ -107,19 +103,30 @@ impl Chain {
     }
 
     /// Puts an extent after that of a node, or before all, into a spare node: at most six steps.
-    pub(crate) fn insert_after<L: Ledger>(&mut self, before: Option<usize>, extent: Extent, steps: &mut Steps<L>)
+    pub(crate) fn insert_after<L: Ledger>(
+        &mut self,
+        before: Option<usize>,
+        extent: Extent,
+        steps: &mut Steps<L>,
+    )
         requires spare { 0 < self.old.spare }
         requires before { ForSome before (λ at. 0 < times at self.old.links) }
-        ensures extents {
-          (done rest : List Link) → self.old.links ≡ unwind done rest → before ≡ first_at done
-            → extents_of self.new.links ≡ unwind (extents_of done) (extent ∷ extents_of rest)
-        }
+        ensures extents { (done rest : List Link) → self.old.links ≡ unwind done rest → before ≡ first_at done
+            → extents_of self.new.links ≡ unwind (extents_of done) (extent ∷ extents_of rest) }
         ensures spare { self.new.spare + 1 ≡ self.old.spare }
         ensures steps { steps.new ≤ steps.old + 6 }
     {
         let at = self.pool.take_node(steps);
         let after = replace_after(&mut self.pool, &mut self.first, before, Some(at), steps);
-        self.pool.set_node(at, Node { extent, before, after }, steps);
+        self.pool.set_node(
+            at,
+            Node {
+                extent,
+                before,
+                after,
+            },
+            steps,
+        );
         replace_before(&mut self.pool, after, Some(at), steps);
         self.len += 1;
     }
@@ -127,14 +134,16 @@ impl Chain {
     /// Takes an extent out, whose node is spare then: at most six steps.
     pub(crate) fn remove<L: Ledger>(&mut self, at: usize, steps: &mut Steps<L>)
         requires { 0 < times at self.old.links }
-        ensures links {
-          (done rest : List Link) (e : Extent) → self.old.links ≡ unwind done (record { at = at; extent = e } ∷ rest)
-            → self.new.links ≡ unwind done rest
-        }
+        ensures links { (done rest : List Link) (e : Extent) → self.old.links ≡ unwind done (record { at = at; extent = e } ∷ rest)
+            → self.new.links ≡ unwind done rest }
         ensures spare { self.new.spare ≡ self.old.spare + 1 }
         ensures steps { steps.new ≤ steps.old + 6 }
     {
-        let Node { extent: _, before, after } = self.pool.node(at, steps);
+        let Node {
+            extent: _,
+            before,
+            after,
+        } = self.pool.node(at, steps);
         let _ = replace_after(&mut self.pool, &mut self.first, before, after, steps);
         replace_before(&mut self.pool, after, before, steps);
         self.pool.give_node(at, steps);
@@ -175,9 +184,7 @@ fn replace_after<L: Ledger>(
     ensures nodes { ChangesAt before (after_as to) pool.old.nodes pool.new.nodes }
     ensures idle { pool.new.idle ≡ pool.old.idle }
     ensures first { MatchOption before (first.new ≡ to) (λ at. first.new ≡ first.old) }
-    ensures replaced {
-      MatchOption before (result ≡ first.old) (λ at. IfSome (slice_get pool.old.nodes at) (λ node. result ≡ node.after))
-    }
+    ensures replaced { MatchOption before (result ≡ first.old) (λ at. IfSome (slice_get pool.old.nodes at) (λ node. result ≡ node.after)) }
     ensures steps { steps.new ≤ steps.old + 2 }
 {
     match before {
@@ -195,7 +202,12 @@ fn replace_after<L: Ledger>(
 }
 
 /// Makes `to` the node before one, if there is one: at most two steps.
-fn replace_before<L: Ledger>(pool: &mut Pool, after: Option<usize>, to: Option<usize>, steps: &mut Steps<L>)
+fn replace_before<L: Ledger>(
+    pool: &mut Pool,
+    after: Option<usize>,
+    to: Option<usize>,
+    steps: &mut Steps<L>,
+)
     requires { ForSome after (λ at. (at < length pool.old.nodes) × (times at pool.old.idle ≡ 0)) }
     ensures nodes { ChangesAt after (before_as to) pool.old.nodes pool.new.nodes }
     ensures idle { pool.new.idle ≡ pool.old.idle }

@@ -53,13 +53,17 @@ pub(crate) fn cut_at<L: Ledger>(chain: &Chain, whole: u64, offset: u64, steps: &
 }
 
 /// Puts what is left of an extent into its place: at most eight steps.
-pub(crate) fn replace<L: Ledger>(chain: &mut Chain, at: usize, left: Extent, right: Extent, steps: &mut Steps<L>)
+pub(crate) fn replace<L: Ledger>(
+    chain: &mut Chain,
+    at: usize,
+    left: Extent,
+    right: Extent,
+    steps: &mut Steps<L>,
+)
     requires in_use { 0 < times at chain.old.links }
     requires spare { 0 < chain.old.spare }
-    ensures extents {
-      (done rest : List Link) (e : Extent) → chain.old.links ≡ unwind done (record { at = at; extent = e } ∷ rest)
-        → extents_of chain.new.links ≡ unwind (extents_of done) (kept left (kept right (extents_of rest)))
-    }
+    ensures extents { (done rest : List Link) (e : Extent) → chain.old.links ≡ unwind done (record { at = at; extent = e } ∷ rest)
+        → extents_of chain.new.links ≡ unwind (extents_of done) (kept left (kept right (extents_of rest))) }
     ensures spare { chain.old.spare ≤ chain.new.spare + 1 }
     ensures steps { steps.new ≤ steps.old + 8 }
 {
@@ -103,15 +107,19 @@ fn index_of(link: Option<Link>) -> Option<usize>
 }
 
 /// Puts an extent into a place, joined with the extents that it touches: at most eight steps.
-pub(crate) fn put<L: Ledger>(chain: &mut Chain, whole: u64, cut: Cut, extent: Extent, steps: &mut Steps<L>)
+pub(crate) fn put<L: Ledger>(
+    chain: &mut Chain,
+    whole: u64,
+    cut: Cut,
+    extent: Extent,
+    steps: &mut Steps<L>,
+)
     requires ascend { Ascend 0 whole (extents_of chain.old.links) }
     requires inside { end_of extent ≤ whole }
     requires cut { IsCutAt chain.old.links extent.start cut }
     requires spare { 0 < chain.old.spare }
-    ensures extents {
-      (done rest : List Link) → chain.old.links ≡ unwind done rest → cut.before ≡ slice_get done 0 → cut.after ≡ slice_get rest 0
-        → extents_of chain.new.links ≡ joined_in (extents_of done) extent (extents_of rest)
-    }
+    ensures extents { (done rest : List Link) → chain.old.links ≡ unwind done rest → cut.before ≡ slice_get done 0 → cut.after ≡ slice_get rest 0
+        → extents_of chain.new.links ≡ joined_in (extents_of done) extent (extents_of rest) }
     ensures spare { chain.old.spare ≤ chain.new.spare + 1 }
     ensures steps { steps.new ≤ steps.old + 8 }
 {

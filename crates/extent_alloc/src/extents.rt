@@ -1,7 +1,8 @@
 //! The free extents of a whole.
 
-ghost use Rattle.std.specs.Prelude.{◌≡◌, ◌+◌, ◌<◌, ◌≤◌, [], length, slice_get, IfSome, IfNone, IfOk, OnOk};
+ghost use Rattle.std.specs.Prelude.{◌≡◌, ◌+◌, ◌<◌, ◌≤◌, [], ◌∷◌, length, slice_get, IfSome, IfNone, IfOk, OnOk};
 ghost use Rattle.view_types.specs.Intervals.{AllFree, NoneFree, AreMaximal, IsFirstFit, NoneFits, is_free, without_range, with_range, greatest_aligned};
+ghost use Rattle.extent_alloc.specs.Chains.{extents_of};
 ghost use Rattle.extent_alloc.specs.Free.{kept};
 
 use crate::chain::Chain;
@@ -37,16 +38,14 @@ impl Model for Extents {
 impl Extents {
     /// A whole of `len` bytes, all of it free: one extent from 0, or none where `len` is 0.
     pub fn whole(alloc: Global, len: u64) -> Result<Extents, AllocError>
-        ensures {
-          IfOk result (λ free. free ≡ record { extents = kept (record { start = 0; len = len }) []; whole = len; spare = 0 })
-        }
+        ensures { IfOk result (λ free. free ≡ record { extents = kept (record { start = 0; len = len }) []; whole = len; spare = 0 }) }
     {
         let mut chain = Chain::new(alloc);
-        if len > 0 {
-            chain.grow()?;
-            let mut steps = Steps::<Brand>::new(Blank::new(1));
-            chain.insert_after(None, Extent { start: 0, len }, &mut steps);
+        if len == 0 {
+            return Ok(Extents { chain, whole: len });
         }
+        chain.grow()?;
+        put_first::<Brand>(&mut chain, Extent { start: 0, len }, Blank::new(1));
         Ok(Extents { chain, whole: len })
     }
 
@@ -101,10 +100,9 @@ impl Extents {
         ensures found { IfSome result (IsFirstFit (is_free self.now.extents) len align) }
         ensures none { IfNone result (NoneFits (is_free self.now.extents) len align) }
     {
-        for extent in self.iter() {
-            let fit = fit_in(extent, len, align);
-            if fit.is_some() {
-                return fit;
+        for extent in self.chain.iter() {
+            if let Some(start) = fit_in(extent, len, align) {
+                return Some(start);
             }
         }
         None
@@ -117,7 +115,7 @@ impl Extents {
         ensures { result ≡ greatest_aligned align self.now.extents }
     {
         let mut largest = 0;
-        for extent in self.iter() {
+        for extent in self.chain.iter() {
             largest = aligned_len(extent, align).max(largest);
         }
         largest
@@ -160,7 +158,13 @@ impl Extents {
         ensures steps { steps.new ≤ steps.old + length self.old.extents + 8 }
     {
         let cut = cut_at(&self.chain, self.whole, start, steps);
-        put(&mut self.chain, self.whole, cut, Extent { start, len }, steps);
+        put(
+            &mut self.chain,
+            self.whole,
+            cut,
+            Extent { start, len },
+            steps,
+        );
     }
 
     /// The same extents, whole and room, in memory of its own.
@@ -172,4 +176,18 @@ impl Extents {
             whole: self.whole,
         })
     }
+}
+
+/// Puts the first extent into a chain. Nobody counts its steps.
+fn put_first<L: Ledger>(chain: &mut Chain, extent: Extent, blank: Blank)
+    requires name { blank.name ≡ L.name }
+    requires parts { blank.parts ≡ L.parts }
+    requires some { 0 < blank.parts }
+    requires none { chain.old.links ≡ [] }
+    requires spare { 0 < chain.old.spare }
+    ensures extents { extents_of chain.new.links ≡ extent ∷ [] }
+    ensures spare { chain.new.spare + 1 ≡ chain.old.spare }
+{
+    let mut steps = Steps::<L>::new(blank);
+    chain.insert_after(None, extent, &mut steps);
 }

@@ -14,4 +14,4 @@ returns-in-Some-clause-nodes g c =
     let old = c.args.pool.now.nodes in
     let change = before_as c.args.to in
     subst (λ at. ChangesAt at change old c.set_node.new.self.nodes) (sym c.in-Some.is)
-        (subst (ChangesAt (Some c.in-Some.at) change old) (sym c.set_node.ensures.nodes) (changes_set c.in-Some.at change old c.node-node.result c.node-node.ensures.node))
+    (subst (ChangesAt (Some c.in-Some.at) change old) (sym c.set_node.ensures.nodes) (changes_set c.in-Some.at change old c.node-node.result c.node-node.ensures.node))

@@ -40,6 +40,6 @@ loop-next-preserved g c =
     let is = coming_is links c.args.offset c.args.steps.now c.loop-next.steps c.loop-next.before c.loop-next.next c.in-Some.at way c.in-Some.is in
     let node : c.node-node.result ≡ record { extent = first.extent; before = first_at way.done; after = first_at first.later } = c.node-node.ensures.node way.done first.later first.extent is in
     let passing = passed_one links c.args.offset c.args.steps.now c.loop-next.steps c.loop-next.before c.loop-next.next c.in-Some.at way c.in-Some.is
-        c.node-node.result node (omega (arith, c.if-offset-end.false, c.end.ensures)) in
+    c.node-node.result node (omega (arith, c.if-offset-end.false, c.end.ensures)) in
     subst (λ n. IsPassing links c.args.offset c.args.steps.now n (Some (record { at = c.in-Some.at; extent = c.node-node.result.extent })) c.node-node.result.after)
-        (sym c.node-node.ensures.step) passing
+    (sym c.node-node.ensures.step) passing

@@ -47,7 +47,7 @@ remove-requires g c =
     let fa : Front a cut.rest = front a cut.rest (sym cut.after ∙ ahead.0) in
     let link : Link = record { at = b.at; extent = c.joined-joined.result } in
     some_here a.at a.extent c.set_extent.new.self.links (link ∷ fb.later) fa.later
-        (c.set_extent.ensures.links fb.later (a ∷ fa.later) b.extent (cut.is ∙ (λ i. unwind (fb.is i) (fa.is i))))
+    (c.set_extent.ensures.links fb.later (a ∷ fa.later) b.extent (cut.is ∙ (λ i. unwind (fb.is i) (fa.is i))))
 
 pub set_extent-requires-in-Some-None : goal.set_extent-requires-in-Some-None
 set_extent-requires-in-Some-None g c =
@@ -78,7 +78,7 @@ pub insert_after-requires-clause-before : goal.insert_after-requires-clause-befo
 insert_after-requires-clause-before g c k e =
     let cut = c.requires.cut in
     let first : first_at cut.done ≡ Some k =
-        sym (ap (option_map (λ (l : Link). l.at)) cut.before ∙ index_of-front cut.done) ∙ sym c.index_of.ensures ∙ e in
+    sym (ap (option_map (λ (l : Link). l.at)) cut.before ∙ index_of-front cut.done) ∙ sym c.index_of.ensures ∙ e in
     omega (arith, ap (times k) cut.is, times-unwind k cut.done cut.rest, times-first k cut.done first)
 
 pub returns-in-Some-Some-clause-extents : goal.returns-in-Some-Some-clause-extents
@@ -104,7 +104,7 @@ returns-in-Some-None-clause-extents g c done rest is before after =
     let b = c.in-Some-None.before in
     let behind : (c.args.cut.before ≡ Some b) × (end_of b.extent ≡ e.start) = ended c.args.cut.before e.start b (sym c.ending_at-before.ensures ∙ c.in-Some-None.is-0) in
     let none : starting_at (slice_get rest 0) (end_of e) ≡ None =
-        (λ i. starting_at (sym after i) (sym c.end.ensures i)) ∙ sym c.starting_at-after.ensures ∙ c.in-Some-None.is-1 in
+    (λ i. starting_at (sym after i) (sym c.end.ensures i)) ∙ sym c.starting_at-after.ensures ∙ c.in-Some-None.is-1 in
     let fb : Front b done = front b done (sym before ∙ behind.0) in
     let link : Link = record { at = b.at; extent = c.joined-in-Some-None.result } in
     ap extents_of (c.set_extent-in-Some-None.ensures.links fb.later rest b.extent (is ∙ ap (λ ls. unwind ls rest) fb.is)) ∙ extents_of-unwind fb.later (link ∷ rest)
@@ -117,7 +117,7 @@ returns-in-None-Some-clause-extents g c done rest is before after =
     let e = c.args.extent in
     let a = c.in-None-Some.after in
     let none : ending_at (slice_get done 0) e.start ≡ None =
-        (λ i. ending_at (sym before i) e.start) ∙ sym c.ending_at-before.ensures ∙ c.in-None-Some.is-0 in
+    (λ i. ending_at (sym before i) e.start) ∙ sym c.ending_at-before.ensures ∙ c.in-None-Some.is-0 in
     let ahead : (c.args.cut.after ≡ Some a) × (a.extent.start ≡ c.end.result) = started c.args.cut.after c.end.result a (sym c.starting_at-after.ensures ∙ c.in-None-Some.is-1) in
     let fa : Front a rest = front a rest (sym after ∙ ahead.0) in
     let link : Link = record { at = a.at; extent = c.joined-in-None-Some.result } in
@@ -130,8 +130,8 @@ pub returns-in-None-None-clause-extents : goal.returns-in-None-None-clause-exten
 returns-in-None-None-clause-extents g c done rest is before after =
     let e = c.args.extent in
     let behind : ending_at (slice_get done 0) e.start ≡ None =
-        (λ i. ending_at (sym before i) e.start) ∙ sym c.ending_at-before.ensures ∙ c.in-None-None.is-0 in
+    (λ i. ending_at (sym before i) e.start) ∙ sym c.ending_at-before.ensures ∙ c.in-None-None.is-0 in
     let ahead : starting_at (slice_get rest 0) (end_of e) ≡ None =
-        (λ i. starting_at (sym after i) (sym c.end.ensures i)) ∙ sym c.starting_at-after.ensures ∙ c.in-None-None.is-1 in
+    (λ i. starting_at (sym after i) (sym c.end.ensures i)) ∙ sym c.starting_at-after.ensures ∙ c.in-None-None.is-1 in
     c.insert_after.ensures.extents done rest is (c.index_of.ensures ∙ ap (option_map (λ (l : Link). l.at)) before ∙ index_of-front done)
     ∙ sym (joined_in-none done rest e behind ahead)

@@ -11,9 +11,9 @@ returns-in_err-start-clause-none c =
     let align = c.args.align in
     let next : IsNextMultiple start align (next_multiple_of start align) = next_multiple start align c.requires.align in
     subst (λ o. IfNone o (NoFitIn c.args.extent c.args.len align)) (sym c.from_residual.ensures)
-        (λ p multiple inside.
-            let least = next.least p multiple inside.starts in
-            c.in_err-start.ensures (c.requires.align, omega (arith, least, inside.ends, c.requires.inside)))
+    (λ p multiple inside.
+    let least = next.least p multiple inside.starts in
+    c.in_err-start.ensures (c.requires.align, omega (arith, least, inside.ends, c.requires.inside)))
 
 pub returns-then-len-room-clause-fit : goal.returns-then-len-room-clause-fit
 returns-then-len-room-clause-fit c =

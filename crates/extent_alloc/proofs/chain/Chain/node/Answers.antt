@@ -13,6 +13,6 @@ pub returns-clause-node : goal.returns-clause-node
 returns-clause-node g c done rest e is =
     let node : Node = record { extent = e; before = first_at done; after = first_at rest } in
     let here : slice_get c.self.inside.pool.nodes c.args.at ≡ Some node =
-        node_at c.self.inside.pool.nodes c.args.at e done rest _ c.self.invariant.linked (ap (λ (v : Links). v.links) c.self.view_is ∙ is) in
+    node_at c.self.inside.pool.nodes c.args.at e done rest _ c.self.invariant.linked (ap (λ (v : Links). v.links) c.self.view_is ∙ is) in
     let read : slice_get c.self.inside.pool.nodes c.args.at ≡ Some c.node.result = c.node.ensures.node in
     cc

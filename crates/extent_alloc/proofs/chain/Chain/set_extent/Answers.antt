@@ -22,11 +22,11 @@ set_node-requires-clause-in_use g c =
 pub invariant_of-self : goal.invariant_of-self
 invariant_of-self g c =
     let cut : Cut c.args.at (links_in c.self.inside) =
-        cut_from c.args.at [] (links_in c.self.inside) (subst (λ (v : Links). 0 < times c.args.at v.links) (sym c.self.view_is) c.requires) in
+    cut_from c.args.at [] (links_in c.self.inside) (subst (λ (v : Links). 0 < times c.args.at v.links) (sym c.self.view_is) c.requires) in
     (extent_set c.self.inside _ c.args.at c.node-node.result c.args.extent c.self.invariant c.node-node.ensures.node c.set_node.ensures.nodes c.set_node.ensures.idle refl refl
-        cut.done cut.rest cut.extent cut.is).linked
+    cut.done cut.rest cut.extent cut.is).linked
 
 pub returns-clause-links : goal.returns-clause-links
 returns-clause-links g c done rest e is =
     (extent_set c.self.inside (record { pool = c.set_node.new.self; first = c.self.inside.first; len = c.self.inside.len }) c.args.at c.node-node.result c.args.extent c.self.invariant c.node-node.ensures.node c.set_node.ensures.nodes c.set_node.ensures.idle refl refl
-        done rest e (ap (λ (v : Links). v.links) c.self.view_is ∙ is)).links
+    done rest e (ap (λ (v : Links). v.links) c.self.view_is ∙ is)).links
