@@ -4,12 +4,8 @@ use Rattle.std.specs.Prelude.{◌||◌}
 use Rattle.std.proofs.lemmas.Bool.{cases_lt}
 use Rattle.view_types.specs.declared.extents.Extent.{Extent}
 use Rattle.view_types.specs.Intervals.{end_of, is_within, is_free, AllFree, Ascend, IsInside, IsFirstFit, NoneFits}
-use Rattle.view_types.proofs.Intervals.{within_yes, ascend_from, inside_first, free_later}
+use Rattle.view_types.proofs.Intervals.{within_yes, ascend_from, inside_first, free_later, or_true}
 use Rattle.extent_alloc.specs.Fits.{IsFitIn, NoFitIn, IsLeft}
-
-or_true : (a b : Bool) → b ≡ true → (a || b) ≡ true
-or_true true b e = refl
-or_true false b e = e
 
 module _ (whole : ℕ) (all left : List Extent) (e : Extent) (len align : ℕ) (some : 0 < len) (now : IsLeft whole all (e ∷ left) len align) where
   later : (p : ℕ) → end_of e ≤ p → AllFree (is_free (e ∷ left)) p len → AllFree (is_free left) p len

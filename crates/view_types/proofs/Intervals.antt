@@ -68,3 +68,7 @@ inside_first from whole e es s n up some free lt = record { starts = starts (cas
         let t : is_within e.start e.len (end_of e) ≡ true = within (end_of e) (omega arith) past (omega arith) in
         let f : is_within e.start e.len (end_of e) ≡ false = within_above e.start e.len (end_of e) (omega arith) in
         absurd cc
+
+pub or_true : (a b : Bool) → b ≡ true → (a || b) ≡ true
+or_true true b e = refl
+or_true false b e = e

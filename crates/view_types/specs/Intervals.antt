@@ -46,6 +46,13 @@ pub record AreMaximal (whole : ℕ) (free : ℕ → Bool) (es : List Extent) : T
   pub ascend : Ascend 0 whole es
   pub free_in : (o : ℕ) → is_free es o ≡ free o
 
+-- the offsets of an extent are free, and those next to it are not
+pub record IsMaximal (free : ℕ → Bool) (e : Extent) : Type 0 where
+  pub some : 0 < e.len
+  pub free_in : AllFree free e.start e.len
+  pub before : (o : ℕ) → o + 1 ≡ e.start → free o ≡ false
+  pub behind : free (end_of e) ≡ false
+
 -- the least multiple of `align` from which `len` offsets are free
 pub record IsFirstFit (free : ℕ → Bool) (len align at : ℕ) : Type 0 where
   pub multiple : at % align ≡ 0

@@ -3,10 +3,12 @@
 
 mod extents;
 mod guids;
+mod laws;
 mod list;
 
 pub use extents::Extent;
 pub use guids::{PERSISTENT_MEMORY, persistent_memory};
+pub use laws::{each_maximal, greatest_fits, one_list};
 pub use list::List;
 
 #[cfg(test)]
