@@ -1,4 +1,5 @@
-ghost use Rattle.std.specs.Prelude.{◌≡◌, ◌<◌};
+ghost use Rattle.std.specs.Prelude.{◌≡◌, ◌≤◌, ◌<◌, IfOk};
+ghost use Rattle.view_types.specs.Intervals.{NoneFree, is_free};
 
 use super::*;
 use std::alloc::{AllocError, Global};
@@ -8,43 +9,66 @@ use std::sync::ledger::{Blank, Ledger};
 use std::test::Fail;
 use view_types::Extent;
 
-/// The free extents as pairs of start and length.
-fn listed(alloc: Global, free: &Extents) -> Result<Vec<(u64, u64)>, AllocError> {
-    free.iter()
+/// The free extents are these, as pairs of start and length.
+fn is_listed(alloc: Global, free: &Extents, want: &[(u64, u64)]) -> Result<bool, AllocError> {
+    let listed: Vec<(u64, u64)> = free
+        .iter()
         .map(|extent| (extent.start, extent.len))
-        .collect(alloc)
+        .collect(alloc)?;
+    Ok(listed.as_slice() == want)
 }
 
-fn carved_and_released<L: Ledger>(rt: &impl Abort, alloc: Global, blank: Blank) -> Result<(), Fail>
+/// A whole of 100 without 10 to 19 and 30 to 39.
+fn with_gaps<L: Ledger>(alloc: Global, steps: &mut Steps<L>) -> Result<Extents, AllocError>
+    ensures whole { IfOk result (λ free. free.whole ≡ 100) }
+    ensures spare { IfOk result (λ free. 2 ≤ free.spare) }
+    ensures first { IfOk result (λ free. NoneFree (is_free free.extents) 10 10) }
+    ensures second { IfOk result (λ free. NoneFree (is_free free.extents) 30 10) }
+{
+    let mut free = Extents::whole(alloc, 100)?;
+    free.reserve(4)?;
+    free.carve(10, 10, steps);
+    free.carve(30, 10, steps);
+    Ok(free)
+}
+
+fn gaps_close<L: Ledger>(rt: &impl Abort, alloc: Global, blank: Blank) -> Result<(), Fail>
     requires name { blank.name ≡ L.name }
     requires parts { blank.parts ≡ L.parts }
     requires some { 0 < blank.parts }
 {
     let mut steps = Steps::<L>::new(blank);
-    let mut free = Extents::whole(alloc, 100)?;
-    free.reserve(4)?;
-    free.carve(10, 10, &mut steps);
-    free.carve(30, 10, &mut steps);
-    assert_eq!(rt; listed(alloc, &free)?.as_slice(), [(0, 10), (20, 10), (40, 60)].as_slice());
+    let mut free = with_gaps(alloc, &mut steps)?;
+    assert!(rt; is_listed(alloc, &free, &[(0, 10), (20, 10), (40, 60)])?);
+    free.release(10, 10, &mut steps);
+    assert!(rt; is_listed(alloc, &free, &[(0, 30), (40, 60)])?);
+    free.release(30, 10, &mut steps);
+    assert!(rt; is_listed(alloc, &free, &[(0, 100)])?);
+    Ok(())
+}
+
+fn gaps_are_left_out<L: Ledger>(rt: &impl Abort, alloc: Global, blank: Blank) -> Result<(), Fail>
+    requires name { blank.name ≡ L.name }
+    requires parts { blank.parts ≡ L.parts }
+    requires some { 0 < blank.parts }
+{
+    let mut steps = Steps::<L>::new(blank);
+    let free = with_gaps(alloc, &mut steps)?.take_copy(alloc)?;
     assert_eq!(rt; free.first_fit(7, 8), Some(0));
     assert_eq!(rt; free.first_fit(11, 8), Some(40));
     assert_eq!(rt; free.first_fit(60, 8), Some(40));
     assert_eq!(rt; free.first_fit(61, 8), None);
     assert_eq!(rt; free.largest(8), 56);
-    let copy = free.take_copy(alloc)?;
-    free.release(10, 10, &mut steps);
-    assert_eq!(rt; listed(alloc, &free)?.as_slice(), [(0, 30), (40, 60)].as_slice());
-    free.release(30, 10, &mut steps);
-    assert_eq!(rt; listed(alloc, &free)?.as_slice(), [(0, 100)].as_slice());
-    assert_eq!(rt; copy.count(), 3);
-    assert_eq!(rt; copy.get(1), Some(Extent { start: 20, len: 10 }));
-    assert_eq!(rt; copy.get(3), None);
+    assert_eq!(rt; free.count(), 3);
+    assert_eq!(rt; free.get(1), Some(Extent { start: 20, len: 10 }));
+    assert_eq!(rt; free.get(3), None);
     Ok(())
 }
 
 #[test]
-fn worked_rows(rt: HostRuntime) -> Result<(), Fail> {
-    carved_and_released::<Brand>(&rt, rt.alloc(), Blank::new(1))
+fn gaps(rt: HostRuntime) -> Result<(), Fail> {
+    gaps_close::<Brand>(&rt, rt.alloc(), Blank::new(1))?;
+    gaps_are_left_out::<Brand>(&rt, rt.alloc(), Blank::new(1))
 }
 
 #[test]
