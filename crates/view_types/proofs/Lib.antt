@@ -1,0 +1,4 @@
+pub mod Greatest
+pub mod Intervals
+pub mod Maximal
+pub mod Multiples

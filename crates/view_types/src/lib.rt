@@ -1,11 +1,15 @@
 //! The plain types that layers hand to each other.
 #![tactic(auto)]
 
+mod extents;
 mod guids;
+mod laws;
 mod list;
 mod rule;
 
+pub use extents::Extent;
 pub use guids::{PERSISTENT_MEMORY, persistent_memory};
+pub use laws::{each_maximal, greatest_fits, one_list};
 pub use list::List;
 pub use rule::Rule;
 

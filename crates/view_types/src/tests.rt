@@ -29,3 +29,14 @@ fn guids(rt: HostRuntime) {
     assert_eq!(rt; persistent_memory(), bytes);
     assert_eq!(rt; PERSISTENT_MEMORY, bytes);
 }
+
+#[test]
+fn extents(rt: HostRuntime) {
+    let extent = Extent { start: 8, len: 4 };
+    assert_eq!(rt; extent.end(), 12);
+    let both = extent.joined(&Extent { start: 12, len: 3 });
+    assert_eq!(rt; both, Extent { start: 8, len: 7 });
+    one_list();
+    each_maximal();
+    greatest_fits();
+}

@@ -1,0 +1,14 @@
+pub mod Carving
+pub mod Chains
+pub mod Changes
+pub mod Fitting
+pub mod Growing
+pub mod Inserting
+pub mod Linked
+pub mod Passing
+pub mod Placing
+pub mod Releasing
+pub mod Removing
+pub mod Replacing
+pub mod Resetting
+pub mod Unwinding

@@ -1,0 +1,11 @@
+pub mod Chain
+pub mod Chains
+pub mod Changes
+pub mod Cuts
+pub mod Fits
+pub mod Free
+pub mod Growth
+pub mod Linked
+pub mod Pool
+pub mod Pooled
+pub mod Shown
