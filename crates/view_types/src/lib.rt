@@ -3,9 +3,11 @@
 
 mod guids;
 mod list;
+mod rule;
 
 pub use guids::{PERSISTENT_MEMORY, persistent_memory};
 pub use list::List;
+pub use rule::Rule;
 
 #[cfg(test)]
 mod tests;
