@@ -1,2 +1,8 @@
 mod Examples
 mod Rows
+pub mod Tests
+pub mod WholeUuids
+pub mod Leaving
+pub mod Confined
+pub mod Equations
+pub mod Losing

@@ -7,3 +7,4 @@ pub mod Namespaces
 pub mod Statuses
 pub mod Division
 pub mod Settling
+pub mod Flips

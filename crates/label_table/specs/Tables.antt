@@ -1,7 +1,7 @@
 -- The table that the labels stand for, as one value, and the changes of it that commands make.
-use Rattle.std.specs.Prelude.{ℕ, ◌+◌, ◌-◌, ◌==◌, Bool, false, ◌&&◌, List, Option, Some, None, if◌then◌else◌}
+use Rattle.std.specs.Prelude.{ℕ, ◌+◌, ◌-◌, ◌==◌, Bool, true, false, ◌&&◌, List, Option, Some, None, if◌then◌else◌}
 use Rattle.std.specs.List.{list_any}
-use Rattle.std.specs.Option.{option_and_then, option_map_or}
+use Rattle.std.specs.Option.{option_map_or}
 use Rattle.std.specs.Str.{bytes_eq}
 use Rattle.label_codec.specs.declared.label.Label.{Label}
 use Rattle.module_labels.specs.declared.kind.AreaKind.{AreaKind}
@@ -27,7 +27,7 @@ pub record State : Type 0 where
   pub pending : ℕ → List ℕ → Bool
 
 abbrev pub space_at : Platform → Labels → ℕ → List ℕ → Option Space
-space_at platform labels index uuid = option_and_then (λ region. space labels region uuid) (region_at platform index)
+space_at platform labels index uuid = option_map_or (λ region. space labels region uuid) (region_at platform index) None
 
 abbrev pub pending_at : Platform → Labels → ℕ → List ℕ → Bool
 pending_at platform labels index uuid = option_map_or (λ region. is_pending labels region uuid) (region_at platform index) false
@@ -51,29 +51,30 @@ is_member region handle = list_any (λ (member : Member). member.handle == handl
 abbrev pub is_named : Region → List ℕ → ℕ → List ℕ → Bool
 is_named region uuid index other = region.index == index && bytes_eq uuid other
 
-abbrev pub place_of : Region → ℕ → ℕ
-place_of region handle = if is_member region handle then 1 else 0
+-- the slot that a namespace of the region takes of a module
+abbrev pub slot_of : Region → ℕ → ℕ
+slot_of region handle = if is_member region handle then 1 else 0
 
--- the namespaces with what one uuid has in one region
-abbrev pub spaces_with : Region → List ℕ → Option Space → (ℕ → List ℕ → Option Space) → ℕ → List ℕ → Option Space
-spaces_with region uuid new spaces index other = if is_named region uuid index other then new else spaces index other
+-- values by the index of a region and by uuid, with another one for one namespace
+abbrev pub changed_at : {A : Type 0} → Region → List ℕ → A → (ℕ → List ℕ → A) → ℕ → List ℕ → A
+changed_at region uuid new values index other = if is_named region uuid index other then new else values index other
 
 -- the table with a new namespace, for which each module of its region gives a slot
 abbrev pub with_space : Region → Space → Table → Table
 with_space region space table = record {
   kind = table.kind;
-  spare = λ handle. table.spare handle - place_of region handle;
+  spare = λ handle. table.spare handle - slot_of region handle;
   held = table.held;
-  space = spaces_with region space.uuid (Some space) table.space;
+  space = changed_at region space.uuid (Some space) table.space;
 }
 
 -- the table without a namespace, by which each module of its region gains a slot
 abbrev pub without_space : Region → List ℕ → Table → Table
 without_space region uuid table = record {
   kind = table.kind;
-  spare = λ handle. table.spare handle + place_of region handle;
+  spare = λ handle. table.spare handle + slot_of region handle;
   held = table.held;
-  space = spaces_with region uuid None table.space;
+  space = changed_at region uuid None table.space;
 }
 
 -- the table in which a namespace shows something else, as a new name or length
@@ -82,9 +83,26 @@ with_changed_space region space table = record {
   kind = table.kind;
   spare = table.spare;
   held = table.held;
-  space = spaces_with region space.uuid (Some space) table.space;
+  space = changed_at region space.uuid (Some space) table.space;
 }
 
--- the pending marks with that of one namespace
-abbrev pub pending_with : Region → List ℕ → Bool → (ℕ → List ℕ → Bool) → ℕ → List ℕ → Bool
-pending_with region uuid mark pending index other = if is_named region uuid index other then mark else pending index other
+-- the state with a new namespace, which is pending
+abbrev pub with_namespace : Region → Space → State → State
+with_namespace region space state = record {
+  table = with_space region space state.table;
+  pending = changed_at region space.uuid true state.pending;
+}
+
+-- the state without a namespace
+abbrev pub without_namespace : Region → List ℕ → State → State
+without_namespace region uuid state = record {
+  table = without_space region uuid state.table;
+  pending = changed_at region uuid false state.pending;
+}
+
+-- the state in which a namespace shows something else, and is pending or not
+abbrev pub with_changed_namespace : Region → Space → Bool → State → State
+with_changed_namespace region space mark state = record {
+  table = with_changed_space region space state.table;
+  pending = changed_at region space.uuid mark state.pending;
+}
