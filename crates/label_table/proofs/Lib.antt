@@ -6,3 +6,5 @@ pub mod Leaving
 pub mod Confined
 pub mod Equations
 pub mod Losing
+pub mod Staging
+pub mod Changing
