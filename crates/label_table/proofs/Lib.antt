@@ -8,3 +8,4 @@ pub mod Equations
 pub mod Losing
 pub mod Staging
 pub mod Changing
+pub mod Order
