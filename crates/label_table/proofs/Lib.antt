@@ -9,3 +9,4 @@ pub mod Losing
 pub mod Staging
 pub mod Changing
 pub mod Order
+pub mod Listed

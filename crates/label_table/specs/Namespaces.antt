@@ -1,9 +1,10 @@
 -- The namespaces of a region in their order, and which of them overlap.
-use Rattle.std.specs.Prelude.{ℕ, zero, suc, ◌+◌, nat_lt, Bool, true, false, ◌&&◌, List, [], ◌∷◌, ◌++◌, Option, Some, None, if◌then◌else◌}
+use Rattle.std.specs.Prelude.{ℕ, zero, suc, ◌+◌, nat_lt, Bool, true, false, not, ◌&&◌, List, [], ◌∷◌, ◌++◌, filter, Option, Some, None, if◌then◌else◌}
 use Rattle.std.specs.Cmp.Lexicographic.{slice_cmp}
 use Rattle.std.specs.declared.cmp.Ordering.{Ordering}
 use Rattle.std.specs.Option.{option_and_then, option_to_list}
 use Rattle.std.specs.Ordering.{is_lt, nat_cmp, ordering_then}
+use Rattle.std.specs.Str.{bytes_eq}
 use Rattle.label_codec.specs.declared.label.Label.{Label}
 use Rattle.module_labels.specs.Labels.{Labels}
 use Rattle.region_map.specs.declared.platform.Member.{Member}
@@ -40,6 +41,10 @@ spaces_by_slot labels region = spaces_among labels region region.members
 -- the namespaces of a region, by offset and then by uuid
 abbrev pub namespaces : Labels → Region → List Space
 namespaces labels region = in_order (spaces_by_slot labels region)
+
+-- the namespaces with other uuids
+abbrev pub without_uuid : List ℕ → List Space → List Space
+without_uuid uuid spaces = filter (λ (space : Space). not (bytes_eq uuid space.uuid)) spaces
 
 -- two ranges have an offset in common
 abbrev pub overlaps : Space → Space → Bool
