@@ -10,3 +10,4 @@ pub mod Staging
 pub mod Changing
 pub mod Order
 pub mod Listed
+pub mod Clashes

@@ -135,6 +135,15 @@ lt_true a b e = grind arith
 pub le_true : (a b : ℕ) → nat_le a b ≡ true → a ≤ b
 le_true a b e = grind arith
 
+pub lt_from : (a b : ℕ) → a < b → nat_lt a b ≡ true
+lt_from a b e = grind arith
+
+pub le_from : (a b : ℕ) → a ≤ b → nat_le a b ≡ true
+le_from a b e = grind arith
+
+pub lt_not : (a b : ℕ) → b ≤ a → nat_lt a b ≡ false
+lt_not a b e = grind arith
+
 pub eq_true : (a b : ℕ) → (a == b) ≡ true → a ≡ b
 eq_true a b e = grind arith
 
