@@ -11,3 +11,4 @@ pub mod Changing
 pub mod Order
 pub mod Listed
 pub mod Clashes
+pub mod StatusLaws

@@ -1,8 +1,8 @@
 -- How the offsets of a region are divided: namespaces, held space and common free space.
-use Rattle.std.specs.Prelude.{ℕ, ◌+◌, ◌*◌, ◌==◌, nat_lt, Bool, not, ◌&&◌, List, [], ◌∷◌, length, count_by}
-use Rattle.std.specs.List.{list_any}
+use Rattle.std.specs.Prelude.{◌≡◌, ℕ, ◌+◌, ◌*◌, ◌==◌, nat_lt, Bool, true, false, not, ◌&&◌, List, [], ◌∷◌, length, count_by}
+use Rattle.std.specs.List.{Contains, list_any}
 use Rattle.view_types.specs.declared.extents.Extent.{Extent}
-use Rattle.view_types.specs.Intervals.{AreMaximal, greatest_aligned, is_within}
+use Rattle.view_types.specs.Intervals.{AreMaximal, greatest_aligned, is_free, is_within}
 use Rattle.label_codec.specs.declared.label.Label.{Label}
 use Rattle.module_labels.specs.Labels.{Labels}
 use Rattle.region_map.specs.declared.platform.Member.{Member}
@@ -53,3 +53,16 @@ alignment = 2097152
 -- the size of the greatest namespace that the free extents have room for
 abbrev pub largest : Region → List Extent → ℕ
 largest region extents = length region.members * greatest_aligned alignment extents
+
+-- an offset is in one extent of a list, and in no other
+pub record IsInOne (extents : List Extent) (offset : ℕ) : Type 0 where
+  pub extent : Extent
+  pub listed : Contains extents extent
+  pub has : is_within extent.start extent.len offset ≡ true
+  pub only : (other : Extent) → Contains extents other → is_within other.start other.len offset ≡ true → other ≡ extent
+
+-- which part of its region an offset is in: in one namespace, or held, or free and in one of the extents
+pub data Part (platform : Platform) (labels : Labels) (region : Region) (extents : List Extent) (offset : ℕ) : Type 0 where
+  OfNamespace : namespaces_over labels region offset ≡ 1 → is_free extents offset ≡ false → Part platform labels region extents offset
+  Held : namespaces_over labels region offset ≡ 0 → is_held_at platform labels region offset ≡ true → is_free extents offset ≡ false → Part platform labels region extents offset
+  Free : namespaces_over labels region offset ≡ 0 → is_held_at platform labels region offset ≡ false → IsInOne extents offset → Part platform labels region extents offset
