@@ -12,3 +12,5 @@ pub mod Order
 pub mod Listed
 pub mod Clashes
 pub mod StatusLaws
+pub mod Partition
+pub mod OneFlip

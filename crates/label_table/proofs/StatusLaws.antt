@@ -13,7 +13,7 @@ use Rattle.region_map.specs.declared.platform.Member.{Member}
 use Rattle.region_map.specs.declared.platform.Region.{Region}
 use Rattle.region_map.specs.declared.platform.Platform.{Platform}
 use Rattle.label_table.specs.Belonging.{IsDisjoint, region_at}
-use Rattle.label_table.specs.Division.{has_address, has_offset, is_common_free, is_held_at, namespaces_over, part_size}
+use Rattle.label_table.specs.Division.{IsOpen, IsOwn, has_address, has_offset, is_common_free, is_held_at, namespaces_over, part_size}
 use Rattle.label_table.specs.Fates.{held_count}
 use Rattle.label_table.specs.Namespaces.{first_clash, insert_space, namespaces, overlaps, space_cmp, without_uuid}
 use Rattle.label_table.specs.Spaces.{Space, space}
@@ -116,16 +116,6 @@ pub ready-without : (P : Platform) (r : Region) (u : List ℕ) (L M : Labels) �
 ready-without P r u L M c ready =
     let list : namespaces M r ≡ without_uuid u (namespaces L r) = namespaces-without L M r u (space-new P r u None L M c) (space-others P r u None L M c) in
     ready_calm P r u None L M c ready (subst (λ xs. NoneOverlap xs) (sym list) (none_overlap-without u (namespaces L r) (was_calm P r u None L M c ready)))
-
--- an offset that the namespace with a uuid has
-pub record IsOwn (L : Labels) (r : Region) (u : List ℕ) (o : ℕ) : Type 0 where
-  pub own : Space
-  pub is : space L r u ≡ Some own
-  pub here : has_offset o own ≡ true
-
--- each offset of a range is the namespace's own, or no namespace has it
-abbrev pub IsOpen : Labels → Region → Space → Type 0
-IsOpen L r s = (o : ℕ) → s.offset ≤ o → o < s.offset + s.length → (namespaces_over L r o ≡ 0) ⊎ IsOwn L r s.uuid o
 
 -- So does one in which a namespace comes to an open range.
 pub ready-with : (P : Platform) (r : Region) (s : Space) (L M : Labels) → ChangesAt P r s.uuid (Some s) L M → 0 < s.length → IsOpen L r s → status L r ≡ RegionReady → status M r ≡ RegionReady

@@ -1,5 +1,5 @@
 -- How the offsets of a region are divided: namespaces, held space and common free space.
-use Rattle.std.specs.Prelude.{◌≡◌, ℕ, ◌+◌, ◌*◌, ◌==◌, nat_lt, Bool, true, false, not, ◌&&◌, List, [], ◌∷◌, length, count_by}
+use Rattle.std.specs.Prelude.{◌≡◌, ◌⊎◌, ℕ, ◌+◌, ◌*◌, ◌==◌, ◌≤◌, ◌<◌, nat_lt, Bool, true, false, not, ◌&&◌, List, [], ◌∷◌, length, Option, Some, count_by}
 use Rattle.std.specs.List.{Contains, list_any}
 use Rattle.view_types.specs.declared.extents.Extent.{Extent}
 use Rattle.view_types.specs.Intervals.{AreMaximal, greatest_aligned, is_free, is_within}
@@ -10,7 +10,7 @@ use Rattle.region_map.specs.declared.platform.Region.{Region}
 use Rattle.region_map.specs.declared.platform.Platform.{Platform}
 use Rattle.label_table.specs.Fates.{held_count}
 use Rattle.label_table.specs.Namespaces.{namespaces}
-use Rattle.label_table.specs.Spaces.{Space}
+use Rattle.label_table.specs.Spaces.{Space, space}
 
 abbrev pub size_among : List Member → ℕ
 size_among [] = 0
@@ -66,3 +66,14 @@ pub data Part (platform : Platform) (labels : Labels) (region : Region) (extents
   OfNamespace : namespaces_over labels region offset ≡ 1 → is_free extents offset ≡ false → Part platform labels region extents offset
   Held : namespaces_over labels region offset ≡ 0 → is_held_at platform labels region offset ≡ true → is_free extents offset ≡ false → Part platform labels region extents offset
   Free : namespaces_over labels region offset ≡ 0 → is_held_at platform labels region offset ≡ false → IsInOne extents offset → Part platform labels region extents offset
+
+-- an offset that the namespace with a uuid has
+pub record IsOwn (labels : Labels) (region : Region) (uuid : List ℕ) (offset : ℕ) : Type 0 where
+  pub own : Space
+  pub is : space labels region uuid ≡ Some own
+  pub here : has_offset offset own ≡ true
+
+-- each offset of a namespace's new range is its own, or no namespace has it
+abbrev pub IsOpen : Labels → Region → Space → Type 0
+IsOpen labels region new = (offset : ℕ) → new.offset ≤ offset → offset < new.offset + new.length
+    → (namespaces_over labels region offset ≡ 0) ⊎ IsOwn labels region new.uuid offset
