@@ -14,3 +14,4 @@ pub mod Clashes
 pub mod StatusLaws
 pub mod Partition
 pub mod OneFlip
+pub mod Settled

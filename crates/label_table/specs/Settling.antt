@@ -1,16 +1,17 @@
 -- What becomes of the table when an area is initialised, and when held labels are released: held labels of other modules may
 -- be dead now, and vanish.
-use Rattle.std.specs.Prelude.{ℕ, ◌+◌, ◌==◌, nat_lt, Bool, false, not, ◌&&◌, List, Option, Some, None, is_some, if◌then◌else◌}
+use Rattle.std.specs.Prelude.{◌≡◌, ◌≢◌, ℕ, ◌+◌, ◌==◌, nat_lt, Bool, true, false, not, ◌&&◌, List, Option, Some, None, is_some, if◌then◌else◌}
 use Rattle.std.specs.List.{list_all, list_any}
 use Rattle.label_codec.specs.declared.label.Label.{Label}
 use Rattle.module_labels.specs.declared.kind.AreaKind.{AreaKind}
 use Rattle.module_labels.specs.declared.kind.AreaKind.TheVariants.{Ready}
-use Rattle.module_labels.specs.Labels.{has, is_ready}
+use Rattle.module_labels.specs.Labels.{Labels, has, is_ready}
 use Rattle.region_map.specs.declared.platform.Member.{Member}
 use Rattle.region_map.specs.declared.platform.Region.{Region}
 use Rattle.region_map.specs.declared.platform.Platform.{Platform}
 use Rattle.label_table.specs.Belonging.{region_of}
-use Rattle.label_table.specs.Fates.{is_stale}
+use Rattle.label_table.specs.Fates.{is_held, is_stale}
+use Rattle.label_table.specs.Flips.{HasNone, IsConfined}
 use Rattle.label_table.specs.Tables.{Table}
 
 -- all modules of the region are Ready
@@ -56,3 +57,18 @@ without_held from uuid table = record {
   held = λ handle test. if handle == from then table.held handle (λ label. not (has uuid label) && test label) else table.held handle test;
   space = table.space;
 }
+
+-- An area that was not Ready, and so had no labels, is Ready, with this many slots and no label.
+pub record IsInitialised (handle slots : ℕ) (before after : Labels) : Type 0 where
+  pub others : (other : ℕ) → other ≢ handle → after other ≡ before other
+  pub was_not_ready : is_ready (before handle).kind ≡ false
+  pub had_none : (slot : ℕ) → (before handle).at slot ≡ None
+  pub is_now : (after handle).kind ≡ Ready
+  pub slots_are : (after handle).slots ≡ slots
+  pub has_none : (slot : ℕ) → (after handle).at slot ≡ None
+
+-- A module loses its labels with one uuid, all of which it held.
+pub record IsReleased (platform : Platform) (handle : ℕ) (uuid : List ℕ) (before after : Labels) : Type 0 where
+  pub confined : IsConfined uuid handle before after
+  pub none : HasNone uuid (after handle)
+  pub held : (slot : ℕ) (label : Label) → (before handle).at slot ≡ Some label → has uuid label ≡ true → is_held platform before handle label ≡ true
