@@ -103,6 +103,10 @@ pub record Settles (P : Platform) (L M : Labels) (T : Table) : Type 0 where
   pub dies : (y : ℕ) (l : Label) → is_dead P L y l ≡ true → is_dead P M y l ≡ true
   pub vanish : (y : ℕ) (l : Label) → vanishes P T y l ≡ is_dead P M y l
 
+and_three : (a b c : Bool) → ((a && b) && c) ≡ (a && (b && c))
+and_three true b c = refl
+and_three false b c = refl
+
 held_core : (before after whole : Bool) → (before ≡ true → after ≡ true) → (not after && not whole) ≡ ((not before && not whole) && not after)
 held_core true true true imp = refl
 held_core true true false imp = refl
@@ -236,9 +240,6 @@ module _ (P : Platform) (disjoint : IsDisjoint P) (L M : Labels) (bounded : IsBo
   ready_up : (r : Region) → all_ready r L ≡ true → all_ready r M ≡ true
   ready_up r all = list_all-from _ r.members (λ x in_x. ap (λ (N : Module). is_ready N.kind) (init.others x.handle (away_ready r all x in_x)) ∙ list_all-at _ r.members x all in_x)
 
-  ready_table : Table
-  ready_table = with_ready_area m slots (table P L)
-
   kinds_are : (y : ℕ) → (with_ready_area m slots (table P L)).kind y ≡ (M y).kind
   kinds_are y = elim (cases_eq y m) [
     | inl e ↦ (let t : (y == m) ≡ true = eq_same y m e in (λ i. cond (t i) Ready (L y).kind) ∙ sym init.is_now ∙ (λ i. (M (sym e i)).kind))
@@ -254,4 +255,172 @@ module _ (P : Platform) (disjoint : IsDisjoint P) (L M : Labels) (bounded : IsBo
     dies = stays_dead P L M ready_up (λ r u in_P. init-whole r u) (λ r u t. sym (init-doubled r u) ∙ t);
     vanish = vanishes-dead P disjoint M (with_ready_area m slots (table P L)) kinds_are (λ r u in_P. space_table r u in_P ∙ sym (init-space r u))
         (λ r u. list_any-same _ _ r.members (λ x in_x. held-often P L bounded u x.handle) ∙ sym (init-doubled r u));
+  }
+
+  init-held : (y : ℕ) (p : Label → Bool) → held_count P M y p ≡ held_count P L y (λ l. not (vanishes P (with_ready_area m slots (table P L)) y l) && p l)
+  init-held y p = elim (cases_eq y m) [
+    | inl e ↦ subst (λ j. held_count P M j p ≡ held_count P L j (λ l. not (vanishes P (with_ready_area m slots (table P L)) j l) && p l)) (sym e)
+        (number-none _ (M m) (λ k l is. absurd (let d : Some l ≡ None = sym is ∙ init.has_none k in cc)) ∙ sym (number-none _ (L m) (λ k l is. absurd (let d : Some l ≡ None = sym is ∙ init.had_none k in cc))))
+    | inr differ ↦
+        ap (number (λ l. is_held P M y l && p (without_slot l))) (init.others y differ)
+        ∙ number-same (λ l. is_held P M y l && p (without_slot l)) (λ l. is_held P L y l && (not (vanishes P (with_ready_area m slots (table P L)) y l) && p (without_slot l))) (L y)
+        (λ k l is. (λ i. settled-held P L M (with_ready_area m slots (table P L)) init-settles y l i && p (without_slot l)) ∙ and_three (is_held P L y l) (not (vanishes P (with_ready_area m slots (table P L)) y l)) (p (without_slot l)))
+  ]
+
+  init-spare : (y : ℕ) → spare P M y ≡ (cond (y == m) slots (spare P L y)) + held_count P L y (vanishes P (with_ready_area m slots (table P L)) y)
+  init-spare y = elim (cases_eq y m) [
+    | inl e ↦
+        let t : (y == m) ≡ true = eq_same y m e in
+        let none : kept_count P M y ≡ 0 = subst (λ j. kept_count P M j ≡ 0) (sym e) (number-none _ (M m) (λ k l is. absurd (let d : Some l ≡ None = sym is ∙ init.has_none k in cc))) in
+        let left : held_count P L y (vanishes P (with_ready_area m slots (table P L)) y) ≡ 0 = subst (λ j. held_count P L j (vanishes P (with_ready_area m slots (table P L)) j) ≡ 0) (sym e) (number-none _ (L m) (λ k l is. absurd (let d : Some l ≡ None = sym is ∙ init.had_none k in cc))) in
+        let size : (M y).slots ≡ slots = (λ i. (M (e i)).slots) ∙ init.slots_are in
+        let here : cond {A = ℕ} (y == m) slots (spare P L y) ≡ slots = λ i. cond {A = ℕ} (t i) slots (spare P L y) in
+        omega arith
+    | inr differ ↦
+        let f : (y == m) ≡ false = eq_other y m differ in
+        let same : M y ≡ L y = init.others y differ in
+        let size : (M y).slots ≡ (L y).slots = ap (λ (N : Module). N.slots) same in
+        let kept : kept_count P L y ≡ number (λ l. not (is_dead P M y l)) (L y) + held_count P L y (vanishes P (with_ready_area m slots (table P L)) y) =
+        number-either (λ l. not (is_dead P L y l)) (λ l. not (is_dead P M y l)) (λ l. is_held P L y l && vanishes P (with_ready_area m slots (table P L)) y l) (L y) (λ k l is. settled-kept P L M (with_ready_area m slots (table P L)) init-settles y l) in
+        let after : kept_count P M y ≡ number (λ l. not (is_dead P M y l)) (L y) = ap (number (λ l. not (is_dead P M y l))) same in
+        let few : kept_count P L y ≤ (L y).slots = count-le (λ l. not (is_dead P L y l)) (L y).at (L y).slots in
+        let here : cond {A = ℕ} (y == m) slots (spare P L y) ≡ spare P L y = λ i. cond {A = ℕ} (f i) slots (spare P L y) in
+        omega arith
+  ]
+
+  -- The table is that with the Ready area, settled.
+  pub init-table : table P M ≡ settled P (with_ready_area m slots (table P L))
+  init-table =
+      let spaces : (i : ℕ) (u : List ℕ) → (table P M).space i u ≡ (table P L).space i u = by_index-same P None (space M) (space L) (λ r u in_P. init-space r u) in
+      λ i. record { kind = λ y. sym (kinds_are y) i; spare = λ y. init-spare y i; held = λ y p. init-held y p i; space = λ n u. spaces n u i }
+
+-- Held labels of one uuid in one module are released.
+module _ (P : Platform) (disjoint : IsDisjoint P) (L M : Labels) (bounded : IsBounded L) (m : ℕ) (u : List ℕ) (release : IsReleased P m u L M) where
+  none-after : label_count (labels_with u M) m ≡ 0
+  none-after = number-none any_label (of_uuid u (M m)) (λ k l is. let at = label_if-some (has u) ((M m).at k) l is in never (has u l) at.1 (release.none k l at.0))
+
+  -- a region where u is whole doesn't have the module
+  away_before : (r : Region) → Contains P.regions r → is_whole L r u ≡ true → (x : Member) → Contains r.members x → x.handle ≢ m
+  away_before r in_P w x in_x e =
+      let it : IsOnce r (labels_with u L) x = whole-each r (labels_with u L) x w in_x in
+      let at = label_if-some (has u) ((L x.handle).at it.there.slot) it.there.label it.there.is in
+      let found : region_of P x.handle it.there.label ≡ Some r = region_of-belongs P disjoint r x.handle it.there.label in_P (and_parts (belongs r x.handle it.there.label) _ it.there.passes).0 in
+      let uuid : it.there.label.uuid ≡ u = sym (uuid_is u it.there.label.uuid at.1) in
+      let of : is_of_namespace P L x.handle it.there.label ≡ true = (λ i. is_whole_in L (uuid i) (found i)) ∙ w in
+      let h : is_held P L x.handle it.there.label ≡ true = subst (λ j. is_held P L j it.there.label ≡ true) (sym e) (release.held it.there.slot it.there.label (subst (λ j. (L j).at it.there.slot ≡ Some it.there.label) e at.0) at.1) in
+      never (is_of_namespace P L x.handle it.there.label) of (not_true (is_of_namespace P L x.handle it.there.label) (and_parts (not (is_dead P L x.handle it.there.label)) _ h).1)
+
+  away_after : (r : Region) → is_whole M r u ≡ true → (x : Member) → Contains r.members x → x.handle ≢ m
+  away_after r w x in_x e =
+      let t : label_count (labels_with u M) x.handle ≡ 1 = whole-count r u M x w in_x in
+      let s : label_count (labels_with u M) x.handle ≡ label_count (labels_with u M) m = ap (label_count (labels_with u M)) e in
+      let z = none-after in
+      omega arith
+
+  same_where : (r : Region) → ((x : Member) → Contains r.members x → x.handle ≢ m) → (x : Member) → Contains r.members x → labels_with u M x.handle ≡ labels_with u L x.handle
+  same_where r away x in_x = ap (of_uuid u) (release.confined.others x.handle (away x in_x))
+
+  whole_u : (r : Region) → Contains P.regions r → is_whole M r u ≡ is_whole L r u
+  whole_u r in_P = elim (both (is_whole L r u)) [
+    | inl w ↦ whole-same r (labels_with u L) (labels_with u M) (same_where r (away_before r in_P w))
+    | inr n ↦ elim (both (is_whole M r u)) [
+      | inl w ↦ whole-same r (labels_with u L) (labels_with u M) (same_where r (away_after r w))
+      | inr o ↦ o ∙ sym n
+    ]
+  ]
+
+  other : (v : List ℕ) → bytes_eq u v ≡ false → (r : Region) (x : Member) → Contains r.members x → labels_with v M x.handle ≡ labels_with v L x.handle
+  other v n r x in_x = other-same u m L M release.confined v x.handle (uuid_other u v n)
+
+  release-whole : (r : Region) (v : List ℕ) → Contains P.regions r → is_whole M r v ≡ is_whole L r v
+  release-whole r v in_P = elim (both (bytes_eq u v)) [
+    | inl e ↦ subst (λ w. is_whole M r w ≡ is_whole L r w) (uuid_is u v e) (whole_u r in_P)
+    | inr n ↦ whole-same r (labels_with v L) (labels_with v M) (other v n r)
+  ]
+
+  space_u : (r : Region) → Contains P.regions r → space M r u ≡ space L r u
+  space_u r in_P = elim (both (is_whole L r u)) [
+    | inl w ↦ space-same r (labels_with u L) (labels_with u M) (same_where r (away_before r in_P w))
+    | inr n ↦ let o : is_whole M r u ≡ false = whole_u r in_P ∙ n in rw (o, n) refl
+  ]
+
+  pub release-space : (r : Region) (v : List ℕ) → Contains P.regions r → space M r v ≡ space L r v
+  release-space r v in_P = elim (both (bytes_eq u v)) [
+    | inl e ↦ subst (λ w. space M r w ≡ space L r w) (uuid_is u v e) (space_u r in_P)
+    | inr n ↦ space-same r (labels_with v L) (labels_with v M) (other v n r)
+  ]
+
+  pending_u : (r : Region) → Contains P.regions r → is_pending M r u ≡ is_pending L r u
+  pending_u r in_P = elim (both (is_whole L r u)) [
+    | inl w ↦ pending-same r (labels_with u L) (labels_with u M) (same_where r (away_before r in_P w))
+    | inr n ↦ let o : is_whole M r u ≡ false = whole_u r in_P ∙ n in rw (o, n) refl
+  ]
+
+  pub release-pending : (r : Region) (v : List ℕ) → Contains P.regions r → is_pending M r v ≡ is_pending L r v
+  release-pending r v in_P = elim (both (bytes_eq u v)) [
+    | inl e ↦ subst (λ w. is_pending M r w ≡ is_pending L r w) (uuid_is u v e) (pending_u r in_P)
+    | inr n ↦ pending-same r (labels_with v L) (labels_with v M) (other v n r)
+  ]
+
+  -- how often a module has a uuid afterwards, read off the table without the released labels
+  twice_at : (v : List ℕ) (y : ℕ) → nat_lt 1 ((without_held m u (table P L)).held y (has v)) ≡ nat_lt 1 (label_count (labels_with v M) y)
+  twice_at v y = elim (cases_eq y m) [
+    | inr differ ↦
+        (let f : (y == m) ≡ false = eq_other y m differ in
+        (λ i. nat_lt 1 (cond (f i) (held_count P L y (λ l. not (has u l) && has v l)) (held_count P L y (has v)))) ∙ held-often P L bounded v y ∙ sym (ap (λ (N : Module). nat_lt 1 (number any_label (of_uuid v N))) (release.confined.others y differ)))
+    | inl e ↦
+        (let t : (y == m) ≡ true = eq_same y m e in
+        (λ i. nat_lt 1 (cond (t i) (held_count P L y (λ l. not (has u l) && has v l)) (held_count P L y (has v)))) ∙ subst (λ j. nat_lt 1 (held_count P L j (λ l. not (has u l) && has v l)) ≡ nat_lt 1 (label_count (labels_with v M) j)) (sym e) here)
+  ]
+    where
+      false_and : (a : Bool) → (a && false) ≡ false
+      false_and true = refl
+      false_and false = refl
+
+      here : nat_lt 1 (held_count P L m (λ l. not (has u l) && has v l)) ≡ nat_lt 1 (label_count (labels_with v M) m)
+      here = elim (both (bytes_eq u v)) [
+        | inl same ↦
+            let none : held_count P L m (λ l. not (has u l) && has v l) ≡ 0 = number-none _ (L m) (λ k l is. elim (both (has u l)) [
+              | inl h ↦ (λ i. is_held P L m l && (not (h i) && has v l)) ∙ false_and (is_held P L m l)
+              | inr n ↦ (let f : has v l ≡ false = subst (λ w. has w l ≡ false) (uuid_is u v same) n in (λ i. is_held P L m l && (not (has u l) && f i)) ∙ (λ i. is_held P L m l && (false_and (not (has u l)) i)) ∙ false_and (is_held P L m l))
+            ]) in
+            let none_M : label_count (labels_with v M) m ≡ 0 = subst (λ w. label_count (labels_with w M) m ≡ 0) (uuid_is u v same) none-after in
+            λ i. nat_lt 1 ((none ∙ sym none_M) i)
+        | inr differ ↦
+            let same_count : held_count P L m (λ l. not (has u l) && has v l) ≡ held_count P L m (has v) = number-same (λ l. is_held P L m l && (not (has u l) && has v l)) (λ l. is_held P L m l && has v l) (L m) (λ k l is. elim (both (has v l)) [
+              | inl h ↦ (let n : has u l ≡ false = elim (both (has u l)) [
+                  | inr f ↦ f
+                  | inl g ↦ absurd (uuid_other u v differ (uuid_is v l.uuid h ∙ sym (uuid_is u l.uuid g)))
+                ] in λ i. is_held P L m l && (not (n i) && has v l))
+              | inr f ↦ ((λ i. is_held P L m l && (not (has u l) && f i)) ∙ (λ i. is_held P L m l && false_and (not (has u l)) i) ∙ sym (λ i. is_held P L m l && f i))
+            ]) in
+            ap (nat_lt 1) same_count ∙ held-often P L bounded v m ∙ sym (ap (λ (N : Module). nat_lt 1 (number any_label N)) (other-same u m L M release.confined v m (uuid_other u v differ)))
+      ]
+
+  fewer_doubled : (r : Region) (v : List ℕ) → is_doubled M r v ≡ true → is_doubled L r v ≡ true
+  fewer_doubled r v = list_any-more _ _ r.members (λ x in_x t. by x.handle t)
+    where
+      by : (y : ℕ) → nat_lt 1 (label_count (labels_with v M) y) ≡ true → nat_lt 1 (label_count (labels_with v L) y) ≡ true
+      by y t = elim (both (bytes_eq u v)) [
+        | inr n ↦ sym (ap (λ (N : Module). nat_lt 1 (number any_label N)) (other-same u m L M release.confined v y (uuid_other u v n))) ∙ t
+        | inl same ↦ elim (cases_eq y m) [
+          | inr differ ↦ sym (ap (λ (N : Module). nat_lt 1 (number any_label (of_uuid v N))) (release.confined.others y differ)) ∙ t
+          | inl e ↦
+              let z : label_count (labels_with v M) y ≡ 0 = (λ i. label_count (labels_with (sym (uuid_is u v same) i) M) (e i)) ∙ none-after in
+              never (nat_lt 1 (label_count (labels_with v M) y)) t (ap (nat_lt 1) z)
+        ]
+      ]
+
+  ready_same : (r : Region) → all_ready r M ≡ all_ready r L
+  ready_same r = list_all-same _ _ r.members (λ x in_x. ap is_ready (kind-same u m L M release.confined x.handle))
+
+  space_before : (r : Region) (v : List ℕ) → Contains P.regions r → (table P L).space r.index v ≡ space L r v
+  space_before r v in_P = let found : region_at P r.index ≡ Some r = disjoint.indexes r in_P in λ i. option_map_or (λ q. space L q v) (found i) None
+
+  release-settles : Settles P L M (without_held m u (table P L))
+  release-settles = record {
+    whole = release-whole;
+    dies = stays_dead P L M (λ r t. ready_same r ∙ t) release-whole fewer_doubled;
+    vanish = vanishes-dead P disjoint M (without_held m u (table P L)) (λ y. sym (kind-same u m L M release.confined y)) (λ r v in_P. space_before r v in_P ∙ sym (release-space r v in_P))
+        (λ r v. list_any-same _ _ r.members (λ x in_x. twice_at v x.handle));
   }
