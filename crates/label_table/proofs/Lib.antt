@@ -15,3 +15,5 @@ pub mod StatusLaws
 pub mod Partition
 pub mod OneFlip
 pub mod Settled
+pub mod Initialising
+pub mod Releasing
