@@ -1,23 +1,23 @@
 -- A label of a namespace is replaced.
-use Rattle.std.proofs.Common.{◌≡◌, ◌≢◌, ◌⊎◌, inl, inr, ⊎_elim, ℕ, ◌+◌, ◌-◌, ◌≤◌, Bool, true, false, not, ◌&&◌, List, Option, Some, None, refl, sym, ap, subst, ◌∙◌, arith}
+use Rattle.std.proofs.Common.{◌≡◌, ◌≢◌, ◌⊎◌, inl, inr, ⊎_elim, ℕ, ◌+◌, ◌-◌, ◌≤◌, Bool, true, false, not, ◌&&◌, List, ◌∷◌, Option, Some, None, refl, sym, ap, subst, ◌∙◌, arith}
 use Rattle.std.specs.Prelude.{◌==◌, is_some}
 use Rattle.std.specs.List.{Contains}
 use Rattle.std.specs.Option.{option_map_or}
 use Rattle.std.specs.Str.{bytes_eq}
 use Rattle.std.proofs.lemmas.Bool.{and_right}
 use Rattle.label_codec.specs.declared.label.Label.{Label}
-use Rattle.module_labels.specs.Labels.{IsBounded, Labels, Module, has, number, of_uuid}
+use Rattle.module_labels.specs.Labels.{IsBounded, Labels, Module, first, has, number, of_uuid}
 use Rattle.region_map.specs.declared.platform.Member.{Member}
 use Rattle.region_map.specs.declared.platform.Region.{Region}
 use Rattle.region_map.specs.declared.platform.Platform.{Platform}
 use Rattle.label_table.specs.Belonging.{IsDisjoint, belongs, region_at, region_of}
-use Rattle.label_table.specs.Wholes.{all_ready, any_label, any_read_only, any_updating, is_doubled, is_whole, label_count, labels_with, leading_label}
-use Rattle.label_table.specs.Spaces.{Space, is_pending, space, space_of}
+use Rattle.label_table.specs.Wholes.{all_ready, any_label, any_read_only, any_updating, is_doubled, is_whole, label_count, labels_with, leading_among, leading_label}
+use Rattle.label_table.specs.Spaces.{Space, is_pending, space, space_if, space_of}
 use Rattle.label_table.specs.Fates.{held_count, is_dead, is_held, is_of_namespace, is_stale, is_unfinished, is_whole_in, kept_count, spare, without_slot}
-use Rattle.label_table.specs.Flips.{IsConfined}
+use Rattle.label_table.specs.Flips.{ReplacesOne}
 use Rattle.label_table.specs.Tables.{State, Table, changed_at, state, table, with_changed_namespace, with_changed_space}
 use Rattle.label_table.proofs.Tests.{both, never, uuid_is}
-use Rattle.label_table.proofs.WholeUuids.{region_of-belongs}
+use Rattle.label_table.proofs.WholeUuids.{IsLed, region_of-belongs, whole-led}
 use Rattle.label_table.proofs.Leaving.{label_if-some}
 use Rattle.label_table.proofs.Confined.{ChangesOne, dead-else, held-else, kind-same, number-none, number-same, number-shared, pending-else, pending-other, slots-same, space-else, space-other, whole-count, whole-mine}
 use Rattle.label_table.proofs.Equations.{by_index, by_index-changed, changed_at-same}
@@ -49,17 +49,6 @@ module _ (P : Platform) (disjoint : IsDisjoint P) (L : Labels) (bounded : IsBoun
 
   pub held-none : (p : Label → Bool) → number (λ l. is_held P L x.handle l && p (without_slot l)) (of_uuid u (L x.handle)) ≡ 0
   held-none p = number-none _ (of_uuid u (L x.handle)) (λ k l is. let at = label_if-some (has u) _ l is in λ i. whole-not_held k l at.0 at.1 i && p (without_slot l))
-
--- The labels of a namespace of r change in one module: it is one before and after.
-pub record ReplacesOne (P : Platform) (r : Region) (u : List ℕ) (z : Member) (L M : Labels) : Type 0 where
-  pub disjoint : IsDisjoint P
-  pub bounded : IsBounded L
-  pub bounded_after : IsBounded M
-  pub region_in : Contains P.regions r
-  pub member_in : Contains r.members z
-  pub confined : IsConfined u z.handle L M
-  pub whole : is_whole L r u ≡ true
-  pub whole_after : is_whole M r u ≡ true
 
 module _ (P : Platform) (r : Region) (u : List ℕ) (z : Member) (L M : Labels) (c : ReplacesOne P r u z L M) where
   changes_one : ChangesOne P r u z.handle L M
@@ -100,18 +89,22 @@ module _ (P : Platform) (r : Region) (u : List ℕ) (z : Member) (L M : Labels) 
       })
       ∙ (λ i. record { table = record { kind = λ m. (L m).kind; spare = spare P L; held = held_count P L; space = changed_at r (sym s_uuid i) (Some s) (by_index P None (space L)) }; pending = changed_at r (sym s_uuid i) (is_pending M r u) (by_index P false (is_pending L)) })
 
-  -- Where it shows the same the table is kept.
+  -- Where it shows the same the table is kept,
   pub replaced-kept : space M r u ≡ space L r u → table P M ≡ table P L
-  replaced-kept same = by (space L r u) refl
-    where
-      found : region_at P r.index ≡ Some r
-      found = c.disjoint.indexes r c.region_in
+  replaced-kept same =
+      let found : region_at P r.index ≡ Some r = c.disjoint.indexes r c.region_in in
+      let spaces : (i : ℕ) (v : List ℕ) → by_index P None (space M) i v ≡ changed_at r u (space L r u) (by_index P None (space L)) i v = by_index-changed P None (space M) (space L) c.disjoint r u (space L r u) c.region_in same
+      (λ q v in_q other. ⊎_elim (λ d. space-else P r u z.handle L M changes_one q v in_q d) (λ d. space-other u z.handle L M c.confined q v d) other) in
+      let back : changed_at r u (space L r u) (by_index P None (space L)) ≡ by_index P None (space L) = changed_at-same r u (space L r u) (by_index P None (space L)) (λ i. option_map_or (λ q. space L q u) (found i) None) in
+      let all : (λ i v. by_index P None (space M) i v) ≡ by_index P None (space L) = (λ j i v. spaces i v j) ∙ back in
+      let spares : (m : ℕ) → spare P M m ≡ spare P L m = λ m. λ i. slots-same u z.handle L M c.confined m i - kept_same m i in
+      λ i. record { kind = λ m. kind-same u z.handle L M c.confined m i; spare = λ m. spares m i; held = λ m p. held_same m p i; space = all i }
 
-      by : (o : Option Space) → space L r u ≡ o → table P M ≡ table P L
-      by o is =
-          let spaces : (i : ℕ) (v : List ℕ) → by_index P None (space M) i v ≡ changed_at r u (space L r u) (by_index P None (space L)) i v = by_index-changed P None (space M) (space L) c.disjoint r u (space L r u) c.region_in same
-          (λ q v in_q other. ⊎_elim (λ d. space-else P r u z.handle L M changes_one q v in_q d) (λ d. space-other u z.handle L M c.confined q v d) other) in
-          let back : changed_at r u (space L r u) (by_index P None (space L)) ≡ by_index P None (space L) = changed_at-same r u (space L r u) (by_index P None (space L)) (λ i. option_map_or (λ q. space L q u) (found i) None) in
-          let all : (λ i v. by_index P None (space M) i v) ≡ by_index P None (space L) = (λ j i v. spaces i v j) ∙ back in
-          let spares : (m : ℕ) → spare P M m ≡ spare P L m = λ m. λ i. slots-same u z.handle L M c.confined m i - kept_same m i in
-          λ i. record { kind = λ m. kind-same u z.handle L M c.confined m i; spare = λ m. spares m i; held = λ m p. held_same m p i; space = all i }
+  -- as where the module is not that of position 0, and no label is read-only.
+  pub replaced-elsewhere : (x : Member) (xs : List Member) → r.members ≡ x ∷ xs → x.handle ≢ z.handle → any_read_only r (labels_with u L) ≡ false → any_read_only r (labels_with u M) ≡ false → table P M ≡ table P L
+  replaced-elsewhere x xs members differ writes writes_after =
+      let first_same : labels_with u M x.handle ≡ labels_with u L x.handle = ap (of_uuid u) (c.confined.others x.handle differ) in
+      let leads : leading_label r (labels_with u M) ≡ leading_label r (labels_with u L) = (λ i. leading_among (members i) (labels_with u M)) ∙ ap first first_same ∙ sym (λ i. leading_among (members i) (labels_with u L)) in
+      let flags : any_read_only r (labels_with u M) ≡ any_read_only r (labels_with u L) = writes_after ∙ sym writes in
+      let led : IsLed r (labels_with u L) = whole-led r (labels_with u L) c.whole in
+      replaced-kept ((λ i. space_if r (labels_with u M) (c.whole_after i) ((leads ∙ led.leads) i)) ∙ (λ i. Some (space_of r (flags i) led.lead)) ∙ sym led.space_is)

@@ -13,7 +13,7 @@ use Rattle.label_table.specs.Belonging.{IsDisjoint, belongs, region_of}
 use Rattle.label_table.specs.Wholes.{all_ready, any_label, is_doubled, is_whole, label_count, labels_with}
 use Rattle.label_table.specs.Spaces.{is_pending, space}
 use Rattle.label_table.specs.Fates.{is_dead, is_held, is_of_namespace, is_stale, is_unfinished, is_whole_in, kept_count}
-use Rattle.label_table.specs.Flips.{LeavesOut, LosesDead}
+use Rattle.label_table.specs.Flips.{LeavesOutDead, LosesDead}
 use Rattle.label_table.proofs.Tests.{both, never, list_all-same, list_any-same, list_any-none, uuid_is, uuid_same, some_is}
 use Rattle.label_table.proofs.WholeUuids.{IsDead, IsInside, IsOnce, dead_is, inside, pending-same, place, region_is, region_of-belongs, same_module, space-same, whole-each, whole-same}
 
@@ -46,12 +46,6 @@ dead-once P L bounded m k l is d =
     let some_here : one any_label (label_if (has l.uuid) ((L m).at k)) ≤ label_count (labels_with l.uuid L) m = count-least any_label (λ j. label_if (has l.uuid) ((L m).at j)) k (L m).slots (within L bounded m k l is) in
     grind arith
 
--- what is asked of labels, some of which are left out
-pub record IsLeft (P : Platform) (L M : Labels) : Type 0 where
-  pub disjoint : IsDisjoint P
-  pub bounded : IsBounded L
-  pub leaves : LeavesOut P L M
-
 -- the one label of u in a module was left out
 pub record IsLost (P : Platform) (L M : Labels) (u : List ℕ) (m : ℕ) : Type 0 where
   pub slot : ℕ
@@ -62,7 +56,7 @@ pub record IsLost (P : Platform) (L M : Labels) (u : List ℕ) (m : ℕ) : Type 
   pub one_before : label_count (labels_with u L) m ≡ 1
   pub none_after : label_count (labels_with u M) m ≡ 0
 
-module _ (P : Platform) (L M : Labels) (left : IsLeft P L M) where
+module _ (P : Platform) (L M : Labels) (left : LeavesOutDead P L M) where
   none-stays : (m k : ℕ) (u : List ℕ) → label_if (has u) ((L m).at k) ≡ None → label_if (has u) ((M m).at k) ≡ None
   none-stays m k u none = elim (left.leaves.each m k) [
     | inl same ↦ ap (label_if (has u)) same ∙ none

@@ -14,24 +14,13 @@ use Rattle.label_table.specs.Belonging.{IsDisjoint, belongs, region_of}
 use Rattle.label_table.specs.Wholes.{all_ready, any_label, any_read_only, any_updating, is_doubled, is_whole, label_count, labels_with, leading_label}
 use Rattle.label_table.specs.Spaces.{is_pending, space, space_if}
 use Rattle.label_table.specs.Fates.{held_count, is_dead, is_held, is_of_namespace, is_stale, is_unfinished, is_whole_in, kept_count, spare, without_slot}
-use Rattle.label_table.specs.Flips.{AllStale, HasNone, IsConfined, other_labels}
+use Rattle.label_table.specs.Flips.{FreesOne, other_labels}
 use Rattle.label_table.specs.Tables.{slot_of, state, without_namespace}
 use Rattle.label_table.proofs.Tests.{both, list_any-never, never, uuid_is}
 use Rattle.label_table.proofs.WholeUuids.{dead-from, region_of-belongs}
 use Rattle.label_table.proofs.Leaving.{label_if-some}
 use Rattle.label_table.proofs.Confined.{ChangesOne, dead-else, held-else, kind-same, member-cases, number-away, number-none, number-rest, number-same, number-shared, number-split, doubled-else, pending-else, pending-other, ready-any, slots-same, space-else, space-other, whole-count, whole-mine}
 use Rattle.label_table.proofs.Equations.{by_index, by_index-changed, slot_of-member, slot_of-other}
-
--- All labels of a namespace of r are stale, and one is freed.
-pub record FreesOne (P : Platform) (r : Region) (u : List ℕ) (z : Member) (L M : Labels) : Type 0 where
-  pub disjoint : IsDisjoint P
-  pub bounded : IsBounded L
-  pub region_in : Contains P.regions r
-  pub member_in : Contains r.members z
-  pub confined : IsConfined u z.handle L M
-  pub whole : is_whole L r u ≡ true
-  pub stale : AllStale r u L
-  pub none : HasNone u (M z.handle)
 
 module _ (P : Platform) (r : Region) (u : List ℕ) (z : Member) (L M : Labels) (f : FreesOne P r u z L M) where
   none_after : label_count (labels_with u M) z.handle ≡ 0

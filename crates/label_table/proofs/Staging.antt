@@ -15,18 +15,18 @@ use Rattle.label_table.specs.Belonging.{IsDisjoint, belongs, offset_in, region_a
 use Rattle.label_table.specs.Wholes.{agrees, all_ready, any_label, any_read_only, any_updating, has_one, has_size, is_doubled, is_whole, is_whole_after, label_count, labels_with, leading_among, leading_label, sizes_agree}
 use Rattle.label_table.specs.Spaces.{Space, is_pending, space, space_of}
 use Rattle.label_table.specs.Fates.{is_dead, spare}
-use Rattle.label_table.specs.Flips.{AllStale, AreAligned, AtMostOne, ExactlyOne, HasNone, IsConfined, LeavesOut, LosesDead, other_labels}
+use Rattle.label_table.specs.Flips.{AddsOne, AreAligned, ExactlyOne, FreesOne, IsConfined, LeavesOut, LeavesOutDead, LosesDead}
 use Rattle.label_table.specs.Tables.{State, Table, changed_at, slot_of, state, with_namespace, without_namespace}
 use Rattle.label_table.proofs.Tests.{both, eq_same, list_all-from, list_any-at, list_any-never, lt_true, never, some_is, uuid_is}
 use Rattle.label_table.proofs.WholeUuids.{IsLed, dead-from, region_of-belongs, whole-led}
-use Rattle.label_table.proofs.Leaving.{IsLeft, label_if-some, held-kept, kept_count-kept, number-kept, pending-kept, space-kept}
+use Rattle.label_table.proofs.Leaving.{label_if-some, held-kept, kept_count-kept, number-kept, pending-kept, space-kept}
 use Rattle.label_table.proofs.Confined.{IsConfined-sym, kind-same, number-none, number-same, slots-same, whole-count}
 use Rattle.label_table.proofs.Equations.{SameTable, changed_at-same, changed_at-twice, pending-of_state, space-of_table, state-same}
-use Rattle.label_table.proofs.Losing.{FreesOne, freed-state}
+use Rattle.label_table.proofs.Losing.{freed-state}
 use Rattle.label_table.specs.Fates.{is_held, without_slot}
 
 -- Leaving out dead labels keeps the state.
-pub left-state : (P : Platform) (L M : Labels) → IsLeft P L M → state P M ≡ state P L
+pub left-state : (P : Platform) (L M : Labels) → LeavesOutDead P L M → state P M ≡ state P L
 left-state P L M left = state-same P L M (record {
   kinds = left.leaves.kind;
   spares = λ m. λ i. left.leaves.slots m i - kept_count-kept P L M left m i;
@@ -75,19 +75,6 @@ module _ (r : Region) (u : List ℕ) (at size : ℕ) (M : Labels) (all_there : a
           (ap (is_whole_after r (labels_with u M)) lead ∙ and_from (list_all (has_one r found.0 (labels_with u M)) r.members) _
           (list_all-from (has_one r found.0 (labels_with u M)) r.members (λ y in_y. one_agrees found.0 y in_y m.1))
           (or_first (list_all (has_size found.0 (labels_with u M)) r.members) _ (list_all-from (has_size found.0 (labels_with u M)) r.members (λ y in_y. one_size found.0 y in_y m.2))))
-
--- One more stale label of u stands in M than in L, in the module of z: all labels of u in the modules of r are stale labels of r, at most one a module.
-pub record AddsOne (P : Platform) (r : Region) (u : List ℕ) (z : Member) (L M : Labels) : Type 0 where
-  pub disjoint : IsDisjoint P
-  pub bounded : IsBounded M
-  pub region_in : Contains P.regions r
-  pub member_in : Contains r.members z
-  pub confined : IsConfined u z.handle L M
-  pub none : HasNone u (L z.handle)
-  pub all_there : all_ready r M ≡ true
-  pub stale : AllStale r u M
-  pub mine : (x : Member) (k : ℕ) (l : Label) → Contains r.members x → (M x.handle).at k ≡ Some l → has u l ≡ true → belongs r x.handle l ≡ true
-  pub few : AtMostOne r u M
 
 module _ (P : Platform) (r : Region) (u : List ℕ) (z : Member) (L M : Labels) (a : AddsOne P r u z L M) where
   -- While the uuid is not whole each of its labels is dead,

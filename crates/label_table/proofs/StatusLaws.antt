@@ -18,7 +18,7 @@ use Rattle.label_table.specs.Fates.{held_count}
 use Rattle.label_table.specs.Namespaces.{first_clash, insert_space, namespaces, overlaps, space_cmp, without_uuid}
 use Rattle.label_table.specs.Spaces.{Space, space}
 use Rattle.label_table.specs.Statuses.{RegionStatus, Unusable, AreaNotReady, Clash, RegionReady, first_not_ready, status, status_by, status_by_area, status_by_clash}
-use Rattle.label_table.specs.Tables.{Table, changed_at, space_at, table}
+use Rattle.label_table.specs.Tables.{ChangesAt, Table, changed_at, space_at, table}
 use Rattle.label_table.proofs.Clashes.{Meet, NoneOverlap, count_by-zero, first_clash-from_none, first_clash-none, has_offset-from, has_offset-is, meet-overlaps, none_empty, none_overlap-insert, none_overlap-without}
 use Rattle.label_table.proofs.Equations.{space-of_table}
 use Rattle.label_table.proofs.Listed.{namespaces-ascends, namespaces-from, namespaces-same, namespaces-to, namespaces-with, namespaces-without, without_uuid-cases}
@@ -65,13 +65,6 @@ ready-from L q ready =
     (λ i. status_by (λ m. (L m).kind) (namespaces L q) q (ready.usable i))
     ∙ (λ i. status_by_area (λ m. (L m).kind) (namespaces L q) (ready.areas i))
     ∙ (λ i. status_by_clash (ready.calm i))
-
--- The table changes at one namespace of a region.
-pub record ChangesAt (P : Platform) (r : Region) (u : List ℕ) (new : Option Space) (L M : Labels) : Type 0 where
-  pub disjoint : IsDisjoint P
-  pub region_in : Contains P.regions r
-  pub kinds : (table P M).kind ≡ (table P L).kind
-  pub spaces : (table P M).space ≡ changed_at r u new (table P L).space
 
 module _ (P : Platform) (r : Region) (u : List ℕ) (new : Option Space) (L M : Labels) (c : ChangesAt P r u new L M) where
   read : (N : Labels) (q : Region) (v : List ℕ) → Contains P.regions q → space N q v ≡ space_at P N q.index v

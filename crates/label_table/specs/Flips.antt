@@ -3,13 +3,13 @@ use Rattle.std.specs.Prelude.{◌≡◌, ◌≢◌, ◌⊎◌, ℕ, ◌≤◌, B
 use Rattle.std.specs.List.{Contains}
 use Rattle.label_codec.specs.declared.label.Label.{Label}
 use Rattle.label_codec.specs.Flags.{is_read_only, is_updating}
-use Rattle.module_labels.specs.Labels.{Labels, Module, has, with_only}
+use Rattle.module_labels.specs.Labels.{IsBounded, Labels, Module, has, with_only}
 use Rattle.region_map.specs.declared.platform.Member.{Member}
 use Rattle.region_map.specs.declared.platform.Region.{Region}
 use Rattle.region_map.specs.declared.platform.Platform.{Platform}
-use Rattle.label_table.specs.Belonging.{belongs, offset_in}
+use Rattle.label_table.specs.Belonging.{IsDisjoint, belongs, offset_in}
 use Rattle.label_table.specs.Fates.{is_dead}
-use Rattle.label_table.specs.Wholes.{all_ready, label_count, labels_with}
+use Rattle.label_table.specs.Wholes.{all_ready, is_whole, label_count, labels_with}
 
 -- a slot loses a dead label
 pub record LosesDead (platform : Platform) (before after : Labels) (handle slot : ℕ) : Type 0 where
@@ -58,3 +58,45 @@ AtMostOne region uuid labels = (member : Member) → Contains region.members mem
 -- each module of the region has exactly one
 abbrev pub ExactlyOne : Region → List ℕ → Labels → Type 0
 ExactlyOne region uuid labels = (member : Member) → Contains region.members member → label_count (labels_with uuid labels) member.handle ≡ 1
+
+-- Some dead labels are left out, of any modules at once.
+pub record LeavesOutDead (platform : Platform) (before after : Labels) : Type 0 where
+  pub disjoint : IsDisjoint platform
+  pub bounded : IsBounded before
+  pub leaves : LeavesOut platform before after
+
+-- A label with the uuid comes to a member's module, which had none. All labels with the uuid in the modules of the region are
+-- stale labels of it then, at most one a module, and all modules are Ready.
+pub record AddsOne (platform : Platform) (region : Region) (uuid : List ℕ) (member : Member) (before after : Labels) : Type 0 where
+  pub disjoint : IsDisjoint platform
+  pub bounded : IsBounded after
+  pub region_in : Contains platform.regions region
+  pub member_in : Contains region.members member
+  pub confined : IsConfined uuid member.handle before after
+  pub none : HasNone uuid (before member.handle)
+  pub all_there : all_ready region after ≡ true
+  pub stale : AllStale region uuid after
+  pub mine : EachLabel region uuid after (λ other label. belongs region other.handle label ≡ true)
+  pub few : AtMostOne region uuid after
+
+-- In a member's module the label of a namespace is replaced: the uuid is whole before and after.
+pub record ReplacesOne (platform : Platform) (region : Region) (uuid : List ℕ) (member : Member) (before after : Labels) : Type 0 where
+  pub disjoint : IsDisjoint platform
+  pub bounded : IsBounded before
+  pub bounded_after : IsBounded after
+  pub region_in : Contains platform.regions region
+  pub member_in : Contains region.members member
+  pub confined : IsConfined uuid member.handle before after
+  pub whole : is_whole before region uuid ≡ true
+  pub whole_after : is_whole after region uuid ≡ true
+
+-- In a member's module the label of a namespace is freed, all of whose labels are stale.
+pub record FreesOne (platform : Platform) (region : Region) (uuid : List ℕ) (member : Member) (before after : Labels) : Type 0 where
+  pub disjoint : IsDisjoint platform
+  pub bounded : IsBounded before
+  pub region_in : Contains platform.regions region
+  pub member_in : Contains region.members member
+  pub confined : IsConfined uuid member.handle before after
+  pub whole : is_whole before region uuid ≡ true
+  pub stale : AllStale region uuid before
+  pub none : HasNone uuid (after member.handle)

@@ -1,6 +1,6 @@
 -- The table that the labels stand for, as one value, and the changes of it that commands make.
-use Rattle.std.specs.Prelude.{ℕ, ◌+◌, ◌-◌, ◌==◌, Bool, true, false, ◌&&◌, List, Option, Some, None, if◌then◌else◌}
-use Rattle.std.specs.List.{list_any}
+use Rattle.std.specs.Prelude.{◌≡◌, ℕ, ◌+◌, ◌-◌, ◌==◌, Bool, true, false, ◌&&◌, List, Option, Some, None, if◌then◌else◌}
+use Rattle.std.specs.List.{Contains, list_any}
 use Rattle.std.specs.Option.{option_map_or}
 use Rattle.std.specs.Str.{bytes_eq}
 use Rattle.label_codec.specs.declared.label.Label.{Label}
@@ -9,7 +9,7 @@ use Rattle.module_labels.specs.Labels.{Labels}
 use Rattle.region_map.specs.declared.platform.Member.{Member}
 use Rattle.region_map.specs.declared.platform.Region.{Region}
 use Rattle.region_map.specs.declared.platform.Platform.{Platform}
-use Rattle.label_table.specs.Belonging.{region_at}
+use Rattle.label_table.specs.Belonging.{IsDisjoint, region_at}
 use Rattle.label_table.specs.Fates.{held_count, spare}
 use Rattle.label_table.specs.Spaces.{Space, is_pending, space}
 
@@ -106,3 +106,10 @@ with_changed_namespace region space mark state = record {
   table = with_changed_space region space state.table;
   pending = changed_at region space.uuid mark state.pending;
 }
+
+-- The table changes at one namespace of a region alone, and may change in spare slots and held labels.
+pub record ChangesAt (platform : Platform) (region : Region) (uuid : List ℕ) (new : Option Space) (before after : Labels) : Type 0 where
+  pub disjoint : IsDisjoint platform
+  pub region_in : Contains platform.regions region
+  pub kinds : (table platform after).kind ≡ (table platform before).kind
+  pub spaces : (table platform after).space ≡ changed_at region uuid new (table platform before).space
