@@ -1,2 +1,8 @@
-//! What the labels of all modules stand for: namespaces, held space and free space, as one table.
+//! What the labels of all modules stand for: namespaces, held space and free space, as one table (UEFI 2.7, section 13.19).
 #![tactic(auto)]
+
+mod laws;
+
+pub use laws::{
+    dead_label_laws, division_laws, flip_laws, region_laws, settling_laws, status_laws, table_laws,
+};
