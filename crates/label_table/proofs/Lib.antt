@@ -17,3 +17,4 @@ pub mod OneFlip
 pub mod Settled
 pub mod Initialising
 pub mod Releasing
+pub mod SoundPlatforms

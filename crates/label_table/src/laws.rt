@@ -8,6 +8,7 @@ ghost use Rattle.module_labels.specs.Labels.{IsBounded, Labels};
 ghost use Rattle.region_map.specs.declared.platform.Member.{Member};
 ghost use Rattle.region_map.specs.declared.platform.Platform.{Platform};
 ghost use Rattle.region_map.specs.declared.platform.Region.{Region};
+ghost use Rattle.region_map.specs.Platforms.{IsSound};
 ghost use Rattle.label_table.specs.Belonging.{IsDisjoint, belongs, member_at, region_of};
 ghost use Rattle.label_table.specs.Division.{AreFreeExtents, IsOpen, Part, is_common_free, part_size};
 ghost use Rattle.label_table.specs.Fates.{is_dead};
@@ -22,6 +23,9 @@ ghost use Rattle.label_table.specs.Wholes.{all_ready, any_read_only, is_doubled,
 
 /// Which region a label belongs to.
 pub fn region_laws()
+    // The platform of a table is disjoint.
+    ensures sound { (platform : Platform) → IsSound platform → IsDisjoint platform }
+
     // At most one region has a label.
     ensures one_region { (platform : Platform) (region : Region) (handle : ℕ) (label : Label) → IsDisjoint platform
         → Contains platform.regions region → belongs region handle label ≡ true → region_of platform handle label ≡ Some region }

@@ -1,5 +1,9 @@
+use Rattle.label_table.proofs.SoundPlatforms.{sound-disjoint}
 use Rattle.label_table.proofs.WholeUuids.{position-own, region_of-belongs}
 use Rattle.label_table.proofs.laws.region_laws.Goals as goal
+
+pub returns-clause-sound : goal.returns-clause-sound
+returns-clause-sound c = sound-disjoint
 
 pub returns-clause-one_region : goal.returns-clause-one_region
 returns-clause-one_region c = λ P r m l disjoint in_P b. region_of-belongs P disjoint r m l in_P b
