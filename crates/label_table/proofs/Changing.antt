@@ -1,22 +1,20 @@
 -- A label of a namespace is replaced.
-use Rattle.std.proofs.Common.{◌≡◌, ◌≢◌, ◌⊎◌, inl, inr, ⊎_elim, ℕ, ◌+◌, ◌-◌, ◌≤◌, Bool, true, false, not, ◌&&◌, List, ◌∷◌, Option, Some, None, refl, sym, ap, subst, ◌∙◌, arith}
-use Rattle.std.specs.Prelude.{◌==◌, is_some}
+use Rattle.std.proofs.Common.{◌≡◌, ◌≢◌, ⊎_elim, ℕ, ◌-◌, Bool, true, false, not, ◌&&◌, List, ◌∷◌, Some, None, refl, sym, ap, ◌∙◌, arith}
 use Rattle.std.specs.List.{Contains}
 use Rattle.std.specs.Option.{option_map_or}
-use Rattle.std.specs.Str.{bytes_eq}
 use Rattle.std.proofs.lemmas.Bool.{and_right}
 use Rattle.label_codec.specs.declared.label.Label.{Label}
-use Rattle.module_labels.specs.Labels.{IsBounded, Labels, Module, first, has, number, of_uuid}
+use Rattle.module_labels.specs.Labels.{IsBounded, Labels, first, has, number, of_uuid}
 use Rattle.region_map.specs.declared.platform.Member.{Member}
 use Rattle.region_map.specs.declared.platform.Region.{Region}
 use Rattle.region_map.specs.declared.platform.Platform.{Platform}
-use Rattle.label_table.specs.Belonging.{IsDisjoint, belongs, region_at, region_of}
-use Rattle.label_table.specs.Wholes.{all_ready, any_label, any_read_only, any_updating, is_doubled, is_whole, label_count, labels_with, leading_among, leading_label}
+use Rattle.label_table.specs.Belonging.{IsDisjoint, region_at, region_of}
+use Rattle.label_table.specs.Wholes.{all_ready, any_label, any_read_only, is_doubled, is_whole, labels_with, leading_among, leading_label}
 use Rattle.label_table.specs.Spaces.{Space, is_pending, space, space_if, space_of}
 use Rattle.label_table.specs.Fates.{held_count, is_dead, is_held, is_of_namespace, is_stale, is_unfinished, is_whole_in, kept_count, spare, without_slot}
 use Rattle.label_table.specs.Flips.{ReplacesOne}
-use Rattle.label_table.specs.Tables.{State, Table, changed_at, state, table, with_changed_namespace, with_changed_space}
-use Rattle.label_table.proofs.Tests.{both, never, uuid_is}
+use Rattle.label_table.specs.Tables.{changed_at, state, table, with_changed_namespace}
+use Rattle.label_table.proofs.Tests.{uuid_is}
 use Rattle.label_table.proofs.WholeUuids.{IsLed, region_of-belongs, whole-led}
 use Rattle.label_table.proofs.Leaving.{label_if-some}
 use Rattle.label_table.proofs.Confined.{ChangesOne, dead-else, held-else, kind-same, number-none, number-same, number-shared, pending-else, pending-other, slots-same, space-else, space-other, whole-count, whole-mine}

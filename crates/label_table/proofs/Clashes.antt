@@ -1,10 +1,9 @@
 -- Which namespaces overlap: no two do exactly where no two neighbours do.
-use Rattle.std.proofs.Common.{◌≡◌, ◌≢◌, ◌⊎◌, inl, inr, ⊎_elim, ℕ, zero, suc, ◌+◌, ◌≤◌, ◌<◌, Bool, true, false, not, ◌&&◌, cond, List, [], ◌∷◌, Option, Some, None, refl, sym, ap, subst, ◌∙◌, arith}
-use Rattle.std.specs.Prelude.{◌==◌, nat_lt, nat_le, count_by}
+use Rattle.std.proofs.Common.{◌≡◌, ◌⊎◌, inl, inr, ⊎_elim, ℕ, ◌+◌, ◌≤◌, ◌<◌, Bool, true, false, cond, List, [], ◌∷◌, Some, None, refl, sym, ap, subst, ◌∙◌, arith}
+use Rattle.std.specs.Prelude.{◌==◌, nat_lt, count_by}
 use Rattle.std.specs.Cmp.Lexicographic.{slice_cmp}
-use Rattle.std.specs.List.{Contains, sum_by}
+use Rattle.std.specs.List.{Contains}
 use Rattle.std.specs.Ordering.{is_lt, nat_cmp, ordering_then}
-use Rattle.std.specs.declared.cmp.Ordering.{Ordering}
 use Rattle.std.specs.declared.cmp.Ordering.TheVariants.{Less, Equal, Greater}
 use Rattle.std.proofs.lemmas.Bool.{and_from, and_parts, cases_lt}
 use Rattle.std.proofs.lemmas.List.Sums.{sum_by-cons}
@@ -14,9 +13,9 @@ use Rattle.region_map.specs.declared.platform.Region.{Region}
 use Rattle.label_table.specs.Division.{has_offset, namespaces_over}
 use Rattle.label_table.specs.Namespaces.{first_clash, first_clash_from, insert_space, namespaces, overlaps, space_cmp, without_uuid}
 use Rattle.label_table.specs.Spaces.{Space}
-use Rattle.label_table.proofs.Tests.{Contains-cases, Contains-here, Contains-none, Contains-there, both, eq_other, le_from, le_true, lt_from, lt_not, lt_true, never, none_some}
-use Rattle.label_table.proofs.Listed.{namespaces-ascends, namespaces-from, space-not_empty, without_uuid-cases}
-use Rattle.label_table.proofs.Order.{Ascends, Before, before-asym, before-total, insert_space-cases}
+use Rattle.label_table.proofs.Tests.{Contains-cases, Contains-here, Contains-none, Contains-there, both, eq_other, le_from, le_true, lt_from, lt_not, lt_true, never}
+use Rattle.label_table.proofs.Listed.{namespaces-from, space-not_empty, without_uuid-cases}
+use Rattle.label_table.proofs.Order.{Ascends, Before, before-asym, insert_space-cases}
 
 end_of : Space → ℕ
 end_of s = s.offset + s.length

@@ -1,9 +1,9 @@
 -- The labels of one uuid change in one module, all of them of one region: what stays.
-use Rattle.std.proofs.Common.{◌≡◌, ◌≢◌, ◌⊎◌, inl, inr, ℕ, zero, suc, ◌+◌, ◌≤◌, ◌<◌, Bool, true, false, not, ◌&&◌, cond, List, Option, Some, None, refl, sym, ap, subst, ◌∙◌, arith}
+use Rattle.std.proofs.Common.{◌≡◌, ◌≢◌, ◌⊎◌, inl, inr, ℕ, zero, suc, ◌+◌, ◌≤◌, Bool, true, false, not, ◌&&◌, cond, List, Option, Some, None, refl, sym, ap, subst, ◌∙◌, arith}
 use Rattle.std.specs.Prelude.{nat_lt, ◌==◌}
-use Rattle.std.specs.List.{Contains, list_any}
+use Rattle.std.specs.List.{Contains}
 use Rattle.std.specs.Str.{bytes_eq}
-use Rattle.std.proofs.lemmas.Bool.{cases_eq, cases_lt, and_parts}
+use Rattle.std.proofs.lemmas.Bool.{cases_eq, and_parts}
 use Rattle.label_codec.specs.declared.label.Label.{Label}
 use Rattle.module_labels.specs.Labels.{IsBounded, Labels, Module, count, has, is_ready, label_if, number, of_uuid, one}
 use Rattle.module_labels.proofs.Counting.{Slots, count-none, count-one, count-same}
@@ -16,7 +16,7 @@ use Rattle.label_table.specs.Spaces.{is_pending, space}
 use Rattle.label_table.specs.Fates.{is_dead, is_held, is_of_namespace, is_stale, is_unfinished, is_whole_in}
 use Rattle.label_table.specs.Flips.{IsConfined, other_labels}
 use Rattle.label_table.specs.Tables.{is_member}
-use Rattle.label_table.proofs.Tests.{both, eq_true, list_all-same, list_any-found, list_any-none, list_any-same, never, not_true, some_is, uuid_is, uuid_other, uuid_same}
+use Rattle.label_table.proofs.Tests.{both, eq_true, list_all-same, list_any-found, list_any-none, list_any-same, never, not_true, some_is, uuid_is, uuid_other}
 use Rattle.label_table.proofs.WholeUuids.{IsInside, IsOnce, inside, pending-same, place, region_is, region_of-belongs, same_module, space-same, whole-each, whole-same}
 use Rattle.label_table.proofs.Leaving.{label_if-passes, label_if-some, within}
 

@@ -1,5 +1,5 @@
 -- Tables and states that show the same are equal.
-use Rattle.std.proofs.Common.{◌≡◌, ◌≢◌, ◌⊎◌, inl, inr, ⊎_elim, ℕ, ◌+◌, ◌-◌, Bool, true, false, ◌&&◌, cond, List, Option, Some, None, refl, sym, ap, subst, ◌∙◌, arith}
+use Rattle.std.proofs.Common.{◌≡◌, ◌≢◌, ◌⊎◌, inl, inr, ℕ, Bool, true, false, ◌&&◌, cond, List, Option, Some, None, refl, sym, ap, subst, ◌∙◌}
 use Rattle.std.specs.Prelude.{◌==◌}
 use Rattle.std.specs.List.{Contains}
 use Rattle.std.specs.Option.{option_map_or}
@@ -10,10 +10,10 @@ use Rattle.region_map.specs.declared.platform.Member.{Member}
 use Rattle.region_map.specs.declared.platform.Region.{Region}
 use Rattle.region_map.specs.declared.platform.Platform.{Platform}
 use Rattle.label_table.specs.Belonging.{IsDisjoint, region_at}
-use Rattle.label_table.specs.Spaces.{Space, is_pending, space}
+use Rattle.label_table.specs.Spaces.{is_pending, space}
 use Rattle.label_table.specs.Fates.{held_count, spare}
-use Rattle.label_table.specs.Tables.{State, Table, changed_at, is_member, is_named, slot_of, state, table, with_changed_space, with_namespace, with_space, without_namespace, without_space}
-use Rattle.label_table.proofs.Tests.{both, eq_other, eq_same, eq_true, find-some, list_any-at, some_is, uuid_is, uuid_other, uuid_same}
+use Rattle.label_table.specs.Tables.{changed_at, is_member, is_named, slot_of, state, table}
+use Rattle.label_table.proofs.Tests.{both, eq_same, eq_true, find-some, list_any-at, uuid_is, uuid_other}
 
 -- a value of each region and uuid, by the index of the region
 abbrev pub by_index : {A : Type 0} → Platform → A → (Region → List ℕ → A) → ℕ → List ℕ → A

@@ -1,5 +1,5 @@
 -- A platform of two modules and a region of 128 MiB over both, by which the definitions are tried out.
-use Rattle.std.proofs.Common.{ℕ, ◌+◌, Bool, true, false, cond, List, [], ◌∷◌, ◌++◌, Option, Some, None}
+use Rattle.std.proofs.Common.{ℕ, cond, List, [], ◌∷◌, Option, Some, None}
 use Rattle.std.specs.Prelude.{◌==◌, replicate}
 use Rattle.view_types.specs.Guids.{persistent_memory}
 use Rattle.label_codec.specs.declared.label.Label.{Label}

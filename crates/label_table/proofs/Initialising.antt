@@ -1,29 +1,26 @@
 -- An area is initialised: what becomes of the table.
-use Rattle.std.proofs.Common.{◌≡◌, ◌≢◌, ◌⊎◌, inl, inr, ⊎_elim, ℕ, zero, suc, ◌+◌, ◌-◌, ◌≤◌, ◌<◌, Bool, true, false, not, ◌&&◌, cond, List, [], ◌∷◌, Option, Some, None, refl, sym, ap, subst, ◌∙◌, arith}
-use Rattle.std.specs.Prelude.{◌==◌, nat_lt, is_some}
-use Rattle.std.specs.List.{Contains, list_any}
+use Rattle.std.proofs.Common.{◌≡◌, ◌≢◌, inl, inr, ℕ, ◌+◌, ◌≤◌, Bool, true, false, not, ◌&&◌, cond, List, Some, None, refl, sym, ap, subst, ◌∙◌, arith}
+use Rattle.std.specs.Prelude.{◌==◌, nat_lt}
+use Rattle.std.specs.List.{Contains}
 use Rattle.std.specs.Option.{option_map_or}
-use Rattle.std.specs.Str.{bytes_eq}
-use Rattle.std.proofs.lemmas.Bool.{and_from, and_parts, and_right, cases_eq, cases_lt}
+use Rattle.std.proofs.lemmas.Bool.{and_parts, cases_eq}
 use Rattle.label_codec.specs.declared.label.Label.{Label}
 use Rattle.module_labels.specs.declared.kind.AreaKind.TheVariants.{Ready}
-use Rattle.module_labels.specs.Labels.{IsBounded, Labels, Module, count, has, is_ready, label_if, number, of_uuid, one}
-use Rattle.module_labels.proofs.Counting.{Slots, count-le, number-of_uuid}
+use Rattle.module_labels.specs.Labels.{IsBounded, Labels, Module, has, is_ready, label_if, number, of_uuid}
+use Rattle.module_labels.proofs.Counting.{count-le}
 use Rattle.region_map.specs.declared.platform.Member.{Member}
 use Rattle.region_map.specs.declared.platform.Region.{Region}
 use Rattle.region_map.specs.declared.platform.Platform.{Platform}
-use Rattle.label_table.specs.Belonging.{IsDisjoint, belongs, region_at, region_of}
-use Rattle.label_table.specs.Fates.{held_count, is_dead, is_held, is_of_namespace, is_stale, is_unfinished, is_whole_in, kept_count, spare, without_slot}
-use Rattle.label_table.specs.Flips.{HasNone, IsConfined, other_labels}
-use Rattle.label_table.specs.Settling.{IsInitialised, IsReleased, has_all_modules, is_given_up, is_held_twice, settled, vanishes, with_ready_area, without_held}
-use Rattle.label_table.specs.Spaces.{Space, is_pending, space, space_if}
-use Rattle.label_table.specs.Tables.{Table, table}
-use Rattle.label_table.specs.Wholes.{all_ready, any_label, is_doubled, is_whole, is_whole_by, label_count, labels_with, leading_label}
-use Rattle.label_table.proofs.Confined.{kind-same, number-none, number-same, number-split, other-same, slots-same, whole-count}
+use Rattle.label_table.specs.Belonging.{IsDisjoint, region_at}
+use Rattle.label_table.specs.Fates.{held_count, is_dead, is_held, kept_count, spare, without_slot}
+use Rattle.label_table.specs.Settling.{IsInitialised, settled, vanishes, with_ready_area}
+use Rattle.label_table.specs.Spaces.{is_pending, space}
+use Rattle.label_table.specs.Tables.{table}
+use Rattle.label_table.specs.Wholes.{all_ready, any_label, is_doubled, is_whole, label_count, labels_with}
+use Rattle.label_table.proofs.Confined.{number-none, number-same, whole-count}
 use Rattle.label_table.proofs.Equations.{by_index-same}
-use Rattle.label_table.proofs.Leaving.{dead-once, label_if-some}
-use Rattle.label_table.proofs.Tests.{both, eq_other, eq_same, list_all-at, list_all-from, list_all-same, list_any-more, list_any-same, never, not_true, uuid_is, uuid_other, uuid_same}
-use Rattle.label_table.proofs.WholeUuids.{IsInside, IsLed, IsOnce, inside, place, pending-same, region_is, region_of-belongs, space-same, whole-each, whole-led, whole-same}
+use Rattle.label_table.proofs.Tests.{both, eq_other, eq_same, list_all-at, list_all-from, list_any-same, never}
+use Rattle.label_table.proofs.WholeUuids.{pending-same, space-same, whole-same}
 use Rattle.label_table.proofs.Settled.{Settles, and_three, held-often, number-either, settled-held, settled-kept, stays_dead, vanishes-dead}
 
 module _ (P : Platform) (disjoint : IsDisjoint P) (L M : Labels) (bounded : IsBounded L) (m slots : ℕ) (init : IsInitialised m slots L M) where

@@ -18,3 +18,4 @@ pub mod Settled
 pub mod Initialising
 pub mod Releasing
 pub mod SoundPlatforms
+pub mod OnlyLabels

@@ -1,16 +1,15 @@
 -- A namespace whose labels are all stale loses one of them.
-use Rattle.std.proofs.Common.{◌≡◌, ◌≢◌, ◌⊎◌, inl, inr, ⊎_elim, ℕ, ◌+◌, ◌-◌, ◌≤◌, Bool, true, false, not, ◌&&◌, List, Option, Some, None, refl, sym, ap, subst, ◌∙◌, arith}
+use Rattle.std.proofs.Common.{◌≡◌, inl, inr, ⊎_elim, ℕ, ◌+◌, ◌≤◌, Bool, true, false, not, ◌&&◌, List, Some, None, refl, sym, ap, subst, ◌∙◌, arith}
 use Rattle.std.specs.Prelude.{is_some}
 use Rattle.std.specs.List.{Contains}
 use Rattle.std.proofs.lemmas.Bool.{cases_eq, and_parts}
 use Rattle.label_codec.specs.declared.label.Label.{Label}
-use Rattle.label_codec.specs.Flags.{is_read_only, is_updating}
-use Rattle.module_labels.specs.Labels.{IsBounded, Labels, Module, has, number, of_uuid}
+use Rattle.module_labels.specs.Labels.{Labels, Module, has, number, of_uuid}
 use Rattle.module_labels.proofs.Counting.{count-le}
 use Rattle.region_map.specs.declared.platform.Member.{Member}
 use Rattle.region_map.specs.declared.platform.Region.{Region}
 use Rattle.region_map.specs.declared.platform.Platform.{Platform}
-use Rattle.label_table.specs.Belonging.{IsDisjoint, belongs, region_of}
+use Rattle.label_table.specs.Belonging.{region_of}
 use Rattle.label_table.specs.Wholes.{all_ready, any_label, any_read_only, any_updating, is_doubled, is_whole, label_count, labels_with, leading_label}
 use Rattle.label_table.specs.Spaces.{is_pending, space, space_if}
 use Rattle.label_table.specs.Fates.{held_count, is_dead, is_held, is_of_namespace, is_stale, is_unfinished, is_whole_in, kept_count, spare, without_slot}
@@ -20,7 +19,7 @@ use Rattle.label_table.proofs.Tests.{both, list_any-never, never, uuid_is}
 use Rattle.label_table.proofs.WholeUuids.{dead-from, region_of-belongs}
 use Rattle.label_table.proofs.Leaving.{label_if-some}
 use Rattle.label_table.proofs.Confined.{ChangesOne, dead-else, held-else, kind-same, member-cases, number-away, number-none, number-rest, number-same, number-shared, number-split, doubled-else, pending-else, pending-other, ready-any, slots-same, space-else, space-other, whole-count, whole-mine}
-use Rattle.label_table.proofs.Equations.{by_index, by_index-changed, slot_of-member, slot_of-other}
+use Rattle.label_table.proofs.Equations.{by_index-changed, slot_of-member, slot_of-other}
 
 module _ (P : Platform) (r : Region) (u : List ℕ) (z : Member) (L M : Labels) (f : FreesOne P r u z L M) where
   none_after : label_count (labels_with u M) z.handle ≡ 0
@@ -130,7 +129,7 @@ module _ (P : Platform) (r : Region) (u : List ℕ) (z : Member) (L M : Labels) 
   freed-held : (y : ℕ) (p : Label → Bool) → held_count P M y p ≡ held_count P L y p
   freed-held y p = number-shared P r u z.handle L M changes_one (λ m l. is_held P L m l && p (without_slot l)) (λ m l. is_held P M m l && p (without_slot l))
       (λ x in_x. left-none (λ l. is_held P M x.handle l && p (without_slot l)) x in_x (λ k l is h. λ i. not_held_after x in_x k l is h i && p (without_slot l))
-          ∙ sym (number-none _ (of_uuid u (L x.handle)) (λ k l is. let at = label_if-some (has u) _ l is in λ i. not_held x in_x k l at.0 at.1 i && p (without_slot l))))
+      ∙ sym (number-none _ (of_uuid u (L x.handle)) (λ k l is. let at = label_if-some (has u) _ l is in λ i. not_held x in_x k l at.0 at.1 i && p (without_slot l))))
       (λ m l other. ap (λ t. t && p (without_slot l)) (held-else P r u z.handle L M changes_one m l other)) y
 
   -- The namespace is gone, each module of its region has one slot more to spare, and all else is the same.

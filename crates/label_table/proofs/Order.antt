@@ -1,5 +1,5 @@
 -- The namespaces of a region as a list: it has each of them once, in order, and so is one list.
-use Rattle.std.proofs.Common.{◌≡◌, ◌≢◌, ◌⊎◌, inl, inr, ⊎_elim, ℕ, zero, suc, ◌+◌, ◌≤◌, ◌<◌, Bool, true, false, not, ◌&&◌, cond, List, [], ◌∷◌, ◌++◌, length, filter, Option, Some, None, refl, sym, ap, subst, ◌∙◌, arith}
+use Rattle.std.proofs.Common.{◌≡◌, ◌≢◌, ◌⊎◌, inl, inr, ⊎_elim, ℕ, zero, suc, ◌<◌, Bool, true, false, cond, List, [], ◌∷◌, ◌++◌, Option, Some, None, refl, sym, ap, subst, ◌∙◌, arith}
 use Rattle.std.specs.Cmp.{IsTotalOrder}
 use Rattle.std.specs.Cmp.Lexicographic.{slice_cmp}
 use Rattle.std.specs.declared.cmp.Ordering.{Ordering}
@@ -7,23 +7,21 @@ use Rattle.std.specs.declared.cmp.Ordering.TheVariants.{Less, Equal, Greater}
 use Rattle.std.specs.List.{Contains}
 use Rattle.std.specs.Option.{option_and_then, option_to_list}
 use Rattle.std.specs.Ordering.{is_eq, is_lt, nat_cmp, ordering_reverse, ordering_then}
-use Rattle.std.specs.Str.{bytes_eq}
 use Rattle.std.proofs.lemmas.Bool.{cases_eq}
 use Rattle.std.proofs.lemmas.Cmp.{nat_cmp_total, nat_list_cmp_total, on_total, then_total}
 use Rattle.std.proofs.lemmas.List.Elements.{Contains-append_left, Contains-push, Contains-push_cases}
 use Rattle.std.proofs.lemmas.Map.Text.{is_eq-slice_cmp}
 use Rattle.label_codec.specs.declared.label.Label.{Label}
-use Rattle.module_labels.specs.Labels.{Labels, Module, first_below, has, label_if}
-use Rattle.module_labels.proofs.Counting.{IsFirst, Slots, count-one, first_below-cases}
+use Rattle.module_labels.specs.Labels.{Labels, first_below, has, label_if}
+use Rattle.module_labels.proofs.Counting.{IsFirst, Slots, first_below-cases}
 use Rattle.region_map.specs.declared.platform.Member.{Member}
 use Rattle.region_map.specs.declared.platform.Region.{Region}
-use Rattle.label_table.specs.Wholes.{any_label, any_read_only, is_whole, is_whole_by, label_count, labels_with, leading_among, leading_label}
+use Rattle.label_table.specs.Wholes.{any_read_only, is_whole, labels_with, leading_among, leading_label}
 use Rattle.label_table.specs.Spaces.{Space, space, space_if, space_of}
-use Rattle.label_table.specs.Namespaces.{in_order, insert_space, namespaces, space_cmp, spaces_among, spaces_below, spaces_by_slot}
-use Rattle.label_table.proofs.Tests.{Contains-cases, Contains-here, Contains-none, Contains-there, both, never, none_some, some_is, uuid_is, uuid_same}
+use Rattle.label_table.specs.Namespaces.{in_order, insert_space, space_cmp, spaces_below}
+use Rattle.label_table.proofs.Tests.{Contains-cases, Contains-here, Contains-none, Contains-there, both, none_some, some_is, uuid_is}
 use Rattle.label_table.proofs.WholeUuids.{IsLed, whole-led}
-use Rattle.label_table.proofs.Leaving.{label_if-passes, label_if-some}
-use Rattle.label_table.proofs.Confined.{whole-count}
+use Rattle.label_table.proofs.Leaving.{label_if-some}
 
 -- the order
 space_total : IsTotalOrder space_cmp
@@ -96,9 +94,12 @@ insert_space-ascends new (x ∷ xs) a differ = by (is_lt (space_cmp new x)) refl
   where
     by : (b : Bool) → is_lt (space_cmp new x) ≡ b → Ascends (insert_space new xs) → Ascends (cond b (new ∷ x ∷ xs) (x ∷ insert_space new xs))
     by true e rest = (λ t c. ⊎_elim (λ is. subst (λ y. Before new y) (sym is) e) (λ there. before-trans new x t e (a.0 t there)) (Contains-cases x xs t c), a)
-    by false e rest = (λ t c. ⊎_elim
-        (λ is. subst (λ y. Before x y) (sym is) (before-total new x (differ x (Contains-here x xs)) e))
-        (λ there. a.0 t there) (insert_space-cases new xs t c), rest)
+    by false e rest = (
+      λ t c. ⊎_elim
+          (λ is. subst (λ y. Before x y) (sym is) (before-total new x (differ x (Contains-here x xs)) e))
+          (λ there. a.0 t there) (insert_space-cases new xs t c),
+      rest,
+    )
 
 pub in_order-from : (xs : List Space) (t : Space) → Contains (in_order xs) t → Contains xs t
 in_order-from [] t c = Contains-none t c
@@ -119,8 +120,8 @@ one-list [] (y ∷ ys) a b sub sup = Contains-none y (sup y (Contains-here y ys)
 one-list (x ∷ xs) [] a b sub sup = Contains-none x (sub x (Contains-here x xs))
 one-list (x ∷ xs) (y ∷ ys) a b sub sup = by (Contains-cases y ys x (sub x (Contains-here x xs))) (Contains-cases x xs y (sup y (Contains-here y ys)))
     (λ is. one-list xs ys a.1 b.1
-        (λ t there. rest x xs y ys a (sym is) t there (sub t (Contains-there x xs t there)))
-        (λ t there. rest y ys x xs b is t there (sup t (Contains-there y ys t there))))
+    (λ t there. rest x xs y ys a (sym is) t there (sub t (Contains-there x xs t there)))
+    (λ t there. rest y ys x xs b is t there (sup t (Contains-there y ys t there))))
   where
     rest : (x : Space) (xs : List Space) (y : Space) (ys : List Space) → Ascends (x ∷ xs) → y ≡ x → (t : Space) → Contains xs t → Contains (y ∷ ys) t → Contains ys t
     rest x xs y ys a is t there c = ⊎_elim (λ e. let before : Before x t = a.0 t there in before-asym x t before (subst (λ z. Before z x) (sym (e ∙ is)) (subst (λ z. Before x z) (e ∙ is) before))) (λ in_ys. in_ys) (Contains-cases y ys t c)
@@ -190,7 +191,7 @@ module _ (L : Labels) (r : Region) (at : Slots) where
     | inl e ↦
         let is : at n ≡ Some f.label = subst (λ k. at k ≡ Some f.label) e f.is in
         subst (λ o. Contains (spaces_below L r at n ++ option_to_list (option_and_then (λ (l : Label). space L r l.uuid) o)) s) (sym is)
-            (subst (λ o. Contains (spaces_below L r at n ++ option_to_list o) s) (sym f.space_is) (Contains-push (spaces_below L r at n) s))
+        (subst (λ o. Contains (spaces_below L r at n ++ option_to_list o) s) (sym f.space_is) (Contains-push (spaces_below L r at n) s))
     | inr differ ↦ Contains-append_left (spaces_below L r at n) _ s (spaces_below-to n s (record { slot = f.slot; label = f.label; within = (let lt : f.slot < suc n = f.within in omega arith); is = f.is; space_is = f.space_is }))
   ]
 

@@ -1,6 +1,6 @@
 -- Every offset of a Ready region is in one namespace, or held, or in one free extent, and never in two of these.
 use Rattle.std.proofs.Common.{◌≡◌, ◌⊎◌, inl, inr, ⊎_elim, ℕ, zero, suc, ◌+◌, ◌≤◌, ◌<◌, Bool, true, false, not, ◌&&◌, List, [], ◌∷◌, refl, sym, ap, subst, ◌∙◌, arith}
-use Rattle.std.specs.Prelude.{◌||◌, ◌==◌, nat_lt, nat_le, count_by}
+use Rattle.std.specs.Prelude.{◌||◌, ◌==◌, nat_lt}
 use Rattle.std.specs.List.{Contains}
 use Rattle.std.proofs.lemmas.Bool.{and_from, and_parts, cases_lt}
 use Rattle.view_types.specs.declared.extents.Extent.{Extent}
@@ -8,13 +8,13 @@ use Rattle.view_types.specs.Intervals.{AreMaximal, Ascend, end_of, is_free, is_w
 use Rattle.module_labels.specs.Labels.{Labels}
 use Rattle.region_map.specs.declared.platform.Region.{Region}
 use Rattle.region_map.specs.declared.platform.Platform.{Platform}
-use Rattle.label_table.specs.Division.{AreFreeExtents, Free, Held, IsInOne, OfNamespace, Part, has_offset, is_common_free, is_held_at, namespaces_over, part_size}
+use Rattle.label_table.specs.Division.{AreFreeExtents, Free, Held, IsInOne, OfNamespace, Part, is_held_at, namespaces_over, part_size}
 use Rattle.label_table.specs.Namespaces.{namespaces}
 use Rattle.label_table.specs.Statuses.{RegionReady, status}
 use Rattle.label_table.proofs.Clashes.{count_by-one, first_clash-none, none_empty}
 use Rattle.label_table.proofs.Listed.{namespaces-ascends}
 use Rattle.label_table.proofs.StatusLaws.{ready-parts}
-use Rattle.label_table.proofs.Tests.{Contains-cases, Contains-here, Contains-none, Contains-there, both, eq_same, eq_true, le_from, le_true, lt_from, lt_true, never, not_true}
+use Rattle.label_table.proofs.Tests.{Contains-cases, Contains-here, Contains-none, Contains-there, le_from, le_true, lt_from, lt_true}
 
 -- an offset in an extent
 abbrev pub IsOf : ℕ → Extent → Type 0

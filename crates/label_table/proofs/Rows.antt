@@ -1,5 +1,5 @@
 -- Worked rows, by computation.
-use Rattle.std.proofs.Common.{◌≡◌, ℕ, Bool, true, false, ◌&&◌, List, [], ◌∷◌, Option, Some, None, refl}
+use Rattle.std.proofs.Common.{◌≡◌, ℕ, Bool, true, false, ◌&&◌, List, [], ◌∷◌, refl}
 use Rattle.std.specs.Prelude.{nat_lt, replicate}
 use Rattle.module_labels.specs.declared.kind.AreaKind.TheVariants.{Missing}
 use Rattle.module_labels.specs.Labels.{Labels, has}
@@ -8,7 +8,7 @@ use Rattle.label_table.specs.Wholes.{any_label, is_whole}
 use Rattle.label_table.specs.Spaces.{Space, is_pending}
 use Rattle.label_table.specs.Fates.{held_count, spare}
 use Rattle.label_table.specs.Namespaces.{namespaces}
-use Rattle.label_table.specs.Statuses.{RegionStatus, AreaNotReady, Clash, RegionReady, status}
+use Rattle.label_table.specs.Statuses.{AreaNotReady, Clash, RegionReady, status}
 use Rattle.label_table.specs.Division.{is_common_free, largest}
 use Rattle.label_table.proofs.Examples.{region, platform, first_uuid, second_uuid, name_a, name_b, updating, label, part, no_label, at_first, at_second, ready_area, missing, two_modules}
 

@@ -1,5 +1,5 @@
 -- The platform of a table is disjoint.
-use Rattle.std.proofs.Common.{◌≡◌, ◌≢◌, ◌⊎◌, inl, inr, ⊎_elim, ℕ, zero, suc, ◌+◌, ◌≤◌, ◌<◌, true, false, cond, List, [], ◌∷◌, length, find, Option, Some, None, refl, sym, ap, subst, ◌∙◌, arith}
+use Rattle.std.proofs.Common.{◌≡◌, ◌⊎◌, inl, inr, ℕ, suc, ◌+◌, ◌≤◌, ◌<◌, true, false, cond, List, [], ◌∷◌, length, find, Option, Some, None, refl, sym, ap, subst, ◌∙◌, arith}
 use Rattle.std.specs.Prelude.{◌==◌, AllPairs, slice_index_or}
 use Rattle.std.specs.List.{Contains}
 use Rattle.std.proofs.lemmas.Bool.{cases_eq, cases_lt}
@@ -8,7 +8,7 @@ use Rattle.region_map.specs.declared.platform.Member.{Member}
 use Rattle.region_map.specs.declared.platform.Region.{Region}
 use Rattle.region_map.specs.declared.platform.Platform.{Platform}
 use Rattle.region_map.specs.Platforms.{IsSound}
-use Rattle.region_map.specs.Sound.{AreApart, IsUsable}
+use Rattle.region_map.specs.Sound.{IsUsable}
 use Rattle.region_map.proofs.Disjoint.{disjoint, unusable_region, usable_region}
 use Rattle.region_map.proofs.Ordered.{ordered}
 use Rattle.label_table.specs.Belonging.{IsDisjoint, member_at, no_member, region_at}

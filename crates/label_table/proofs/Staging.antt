@@ -1,27 +1,27 @@
 -- Stale labels of a new namespace are added one by one.
-use Rattle.std.proofs.Common.{◌≡◌, ◌≢◌, ◌⊎◌, inl, inr, ⊎_elim, ℕ, ◌+◌, ◌-◌, ◌≤◌, ◌<◌, Bool, true, false, not, ◌&&◌, cond, List, [], ◌∷◌, Option, Some, None, refl, sym, ap, subst, ◌∙◌, arith}
+use Rattle.std.proofs.Common.{◌≡◌, ◌⊎◌, inl, inr, ℕ, ◌+◌, ◌-◌, ◌≤◌, ◌<◌, Bool, true, false, not, ◌&&◌, List, ◌∷◌, Option, Some, None, refl, sym, ap, subst, ◌∙◌, arith}
 use Rattle.std.specs.Prelude.{◌||◌, ◌==◌, nat_lt}
 use Rattle.std.specs.List.{Contains, list_all}
 use Rattle.std.specs.Option.{option_map_or}
-use Rattle.std.proofs.lemmas.Bool.{cases_eq, and_from, and_parts}
+use Rattle.std.proofs.lemmas.Bool.{cases_eq, and_from}
 use Rattle.label_codec.specs.declared.label.Label.{Label}
 use Rattle.label_codec.specs.Flags.{is_read_only, is_updating}
-use Rattle.module_labels.specs.Labels.{IsBounded, Labels, Module, first_below, has, label_if, number, of_uuid, one}
+use Rattle.module_labels.specs.Labels.{Labels, Module, first_below, has, label_if, number, one}
 use Rattle.module_labels.proofs.Counting.{IsFirst, count-none, first_below-cases}
 use Rattle.region_map.specs.declared.platform.Member.{Member}
 use Rattle.region_map.specs.declared.platform.Region.{Region}
 use Rattle.region_map.specs.declared.platform.Platform.{Platform}
-use Rattle.label_table.specs.Belonging.{IsDisjoint, belongs, offset_in, region_at, region_of}
-use Rattle.label_table.specs.Wholes.{agrees, all_ready, any_label, any_read_only, any_updating, has_one, has_size, is_doubled, is_whole, is_whole_after, label_count, labels_with, leading_among, leading_label, sizes_agree}
-use Rattle.label_table.specs.Spaces.{Space, is_pending, space, space_of}
-use Rattle.label_table.specs.Fates.{is_dead, spare}
+use Rattle.label_table.specs.Belonging.{belongs, offset_in, region_at, region_of}
+use Rattle.label_table.specs.Wholes.{agrees, all_ready, any_label, any_read_only, any_updating, has_one, has_size, is_doubled, is_whole, is_whole_after, label_count, labels_with, leading_among, leading_label}
+use Rattle.label_table.specs.Spaces.{Space, is_pending, space}
+use Rattle.label_table.specs.Fates.{is_dead}
 use Rattle.label_table.specs.Flips.{AddsOne, AreAligned, ExactlyOne, FreesOne, IsConfined, LeavesOut, LeavesOutDead, LosesDead}
-use Rattle.label_table.specs.Tables.{State, Table, changed_at, slot_of, state, with_namespace, without_namespace}
-use Rattle.label_table.proofs.Tests.{both, eq_same, list_all-from, list_any-at, list_any-never, lt_true, never, some_is, uuid_is}
-use Rattle.label_table.proofs.WholeUuids.{IsLed, dead-from, region_of-belongs, whole-led}
+use Rattle.label_table.specs.Tables.{State, changed_at, slot_of, state, with_namespace, without_namespace}
+use Rattle.label_table.proofs.Tests.{both, eq_same, list_all-from, list_any-at, list_any-never, some_is, uuid_is}
+use Rattle.label_table.proofs.WholeUuids.{dead-from, region_of-belongs}
 use Rattle.label_table.proofs.Leaving.{label_if-some, held-kept, kept_count-kept, number-kept, pending-kept, space-kept}
 use Rattle.label_table.proofs.Confined.{IsConfined-sym, kind-same, number-none, number-same, slots-same, whole-count}
-use Rattle.label_table.proofs.Equations.{SameTable, changed_at-same, changed_at-twice, pending-of_state, space-of_table, state-same}
+use Rattle.label_table.proofs.Equations.{changed_at-same, changed_at-twice, state-same}
 use Rattle.label_table.proofs.Losing.{freed-state}
 use Rattle.label_table.specs.Fates.{is_held, without_slot}
 

@@ -1,29 +1,27 @@
 -- What becomes of the status of each region when the table changes at one namespace, and what the table alone tells.
-use Rattle.std.proofs.Common.{◌≡◌, ◌≢◌, ◌⊎◌, inl, inr, ⊎_elim, ℕ, ◌+◌, ◌-◌, ◌≤◌, ◌<◌, Bool, true, false, not, ◌&&◌, cond, List, [], ◌∷◌, Option, Some, None, refl, sym, ap, subst, ◌∙◌, arith}
+use Rattle.std.proofs.Common.{◌≡◌, ◌≢◌, ◌⊎◌, inl, inr, ℕ, ◌+◌, ◌≤◌, ◌<◌, true, false, not, ◌&&◌, cond, List, Option, Some, None, refl, sym, subst, ◌∙◌, arith}
 use Rattle.std.specs.Prelude.{◌==◌, nat_lt, count_by}
 use Rattle.std.specs.List.{Contains, list_any}
 use Rattle.std.specs.Option.{option_map_or}
 use Rattle.std.specs.Ordering.{is_lt}
 use Rattle.std.specs.Str.{bytes_eq}
-use Rattle.std.proofs.lemmas.Bool.{and_parts, cases_lt}
+use Rattle.std.proofs.lemmas.Bool.{cases_lt}
 use Rattle.view_types.specs.declared.rule.Rule.{Rule}
-use Rattle.label_codec.specs.declared.label.Label.{Label}
 use Rattle.module_labels.specs.Labels.{Labels}
 use Rattle.region_map.specs.declared.platform.Member.{Member}
 use Rattle.region_map.specs.declared.platform.Region.{Region}
 use Rattle.region_map.specs.declared.platform.Platform.{Platform}
 use Rattle.label_table.specs.Belonging.{IsDisjoint, region_at}
-use Rattle.label_table.specs.Division.{IsOpen, IsOwn, has_address, has_offset, is_common_free, is_held_at, namespaces_over, part_size}
-use Rattle.label_table.specs.Fates.{held_count}
-use Rattle.label_table.specs.Namespaces.{first_clash, insert_space, namespaces, overlaps, space_cmp, without_uuid}
+use Rattle.label_table.specs.Division.{IsOpen, IsOwn, has_address, has_offset, is_common_free, namespaces_over, part_size}
+use Rattle.label_table.specs.Namespaces.{first_clash, insert_space, namespaces, space_cmp, without_uuid}
 use Rattle.label_table.specs.Spaces.{Space, space}
-use Rattle.label_table.specs.Statuses.{RegionStatus, Unusable, AreaNotReady, Clash, RegionReady, first_not_ready, status, status_by, status_by_area, status_by_clash}
-use Rattle.label_table.specs.Tables.{ChangesAt, Table, changed_at, space_at, table}
+use Rattle.label_table.specs.Statuses.{RegionReady, first_not_ready, status, status_by, status_by_area, status_by_clash}
+use Rattle.label_table.specs.Tables.{ChangesAt, space_at, table}
 use Rattle.label_table.proofs.Clashes.{Meet, NoneOverlap, count_by-zero, first_clash-from_none, first_clash-none, has_offset-from, has_offset-is, meet-overlaps, none_empty, none_overlap-insert, none_overlap-without}
 use Rattle.label_table.proofs.Equations.{space-of_table}
-use Rattle.label_table.proofs.Listed.{namespaces-ascends, namespaces-from, namespaces-same, namespaces-to, namespaces-with, namespaces-without, without_uuid-cases}
+use Rattle.label_table.proofs.Listed.{namespaces-ascends, namespaces-same, namespaces-to, namespaces-with, namespaces-without, without_uuid-cases}
 use Rattle.label_table.proofs.Order.{before-total, space-uuid}
-use Rattle.label_table.proofs.Tests.{both, eq_same, eq_true, never, none_some, some_is, uuid_other, uuid_same}
+use Rattle.label_table.proofs.Tests.{both, eq_same, eq_true, never, some_is, uuid_other, uuid_same}
 
 -- Tables that are equal tell the same of each region of the platform.
 pub status-kept : (P : Platform) → IsDisjoint P → (L M : Labels) → table P M ≡ table P L → (q : Region) → Contains P.regions q → status M q ≡ status L q

@@ -10,9 +10,9 @@ use Rattle.module_labels.proofs.Counting.{IsAt, count-cases}
 use Rattle.region_map.specs.declared.platform.Member.{Member}
 use Rattle.region_map.specs.declared.platform.Region.{Region}
 use Rattle.region_map.specs.declared.platform.Platform.{Platform}
-use Rattle.label_table.specs.Belonging.{IsDisjoint, belongs, is_shared_range, lies_within, member_at, names_set, no_member, offset_in, region_of}
-use Rattle.label_table.specs.Wholes.{agrees, all_ready, any_label, any_read_only, any_updating, has_one, has_size, is_doubled, is_whole, is_whole_after, is_whole_by, label_count, labels_with, leading_among, leading_label, sizes_agree}
-use Rattle.label_table.specs.Spaces.{Space, space_by, space_if, space_of}
+use Rattle.label_table.specs.Belonging.{IsDisjoint, belongs, is_shared_range, member_at, names_set, no_member, region_of}
+use Rattle.label_table.specs.Wholes.{agrees, all_ready, any_label, any_read_only, any_updating, has_one, has_size, is_doubled, is_whole, is_whole_after, is_whole_by, label_count, leading_among, leading_label}
+use Rattle.label_table.specs.Spaces.{space_by, space_if, space_of}
 use Rattle.label_table.specs.Fates.{is_dead, is_stale, is_unfinished}
 use Rattle.label_table.proofs.Tests.{not_true, never, list_all-at, list_all-same, list_any-same, find-some, Contains-here, Contains-there, Contains-cases, Contains-get_or, Contains-none, lt_true, le_true, eq_true}
 

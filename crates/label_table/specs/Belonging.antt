@@ -1,5 +1,5 @@
 -- Which labels belong to the interleave set of a region (UEFI 2.7, section 13.19).
-use Rattle.std.specs.Prelude.{◌≡◌, ◌⊎◌, ℕ, ◌+◌, ◌-◌, ◌≤◌, ◌<◌, ◌==◌, nat_lt, nat_le, Bool, not, ◌&&◌, List, length, Option, Some, find, slice_index_or}
+use Rattle.std.specs.Prelude.{◌≡◌, ◌⊎◌, ℕ, ◌+◌, ◌-◌, ◌≤◌, ◌<◌, ◌==◌, nat_lt, nat_le, Bool, not, ◌&&◌, length, Option, Some, find, slice_index_or}
 use Rattle.std.specs.List.{Contains}
 use Rattle.std.specs.Str.{bytes_eq}
 use Rattle.view_types.specs.Guids.{persistent_memory}

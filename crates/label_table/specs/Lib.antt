@@ -8,3 +8,4 @@ pub mod Statuses
 pub mod Division
 pub mod Settling
 pub mod Flips
+pub mod Plain
