@@ -19,3 +19,4 @@ pub mod Initialising
 pub mod Releasing
 pub mod SoundPlatforms
 pub mod OnlyLabels
+mod Instances
