@@ -1,5 +1,6 @@
 -- How the offsets of a region are divided: namespaces, held space and common free space.
-use Rattle.std.specs.Prelude.{◌≡◌, ◌⊎◌, ℕ, ◌+◌, ◌*◌, ◌==◌, ◌≤◌, ◌<◌, nat_lt, Bool, true, false, not, ◌&&◌, List, [], ◌∷◌, length, Some, count_by}
+use Rattle.std.specs.Prelude.{◌≡◌, ◌⊎◌, ℕ, ◌+◌, ◌*◌, ◌==◌, ◌≤◌, ◌<◌, nat_lt, Bool, true, false, not, ◌&&◌, List, []}
+use Rattle.std.specs.Prelude.{◌∷◌, length, Some, count_by}
 use Rattle.std.specs.List.{Contains, list_any}
 use Rattle.view_types.specs.declared.extents.Extent.{Extent}
 use Rattle.view_types.specs.Intervals.{AreMaximal, greatest_aligned, is_free, is_within}
@@ -32,10 +33,13 @@ namespaces_over labels region offset = count_by (has_offset offset) (namespaces 
 abbrev pub has_address : ℕ → Label → Bool
 has_address dpa label = is_within label.dpa label.raw_size dpa
 
--- a held label of some member holds an offset
+-- a held label of a member's module holds an offset
+abbrev pub holds : Platform → Labels → ℕ → Member → Bool
+holds platform labels offset member =
+    nat_lt 0 (held_count platform labels member.handle (has_address (member.dpa_base + offset)))
+
 abbrev pub is_held_at : Platform → Labels → Region → ℕ → Bool
-is_held_at platform labels region offset =
-    list_any (λ (member : Member). nat_lt 0 (held_count platform labels member.handle (has_address (member.dpa_base + offset)))) region.members
+is_held_at platform labels region offset = list_any (holds platform labels offset) region.members
 
 -- an offset of the region that no namespace has and no label holds
 abbrev pub is_common_free : Platform → Labels → Region → ℕ → Bool
@@ -44,7 +48,8 @@ is_common_free platform labels region offset = nat_lt offset (part_size region)
 
 -- the free extents of a region, in ascending order
 abbrev pub AreFreeExtents : Platform → Labels → Region → List Extent → Type 0
-AreFreeExtents platform labels region extents = AreMaximal (part_size region) (is_common_free platform labels region) extents
+AreFreeExtents platform labels region extents =
+    AreMaximal (part_size region) (is_common_free platform labels region) extents
 
 -- what namespaces are aligned to, in bytes of each member's part
 abbrev pub alignment : ℕ
@@ -62,10 +67,14 @@ pub record IsInOne (extents : List Extent) (offset : ℕ) : Type 0 where
   pub only : (other : Extent) → Contains extents other → is_within other.start other.len offset ≡ true → other ≡ extent
 
 -- which part of its region an offset is in: in one namespace, or held, or free and in one of the extents
-pub data Part (platform : Platform) (labels : Labels) (region : Region) (extents : List Extent) (offset : ℕ) : Type 0 where
-  OfNamespace : namespaces_over labels region offset ≡ 1 → is_free extents offset ≡ false → Part platform labels region extents offset
-  Held : namespaces_over labels region offset ≡ 0 → is_held_at platform labels region offset ≡ true → is_free extents offset ≡ false → Part platform labels region extents offset
-  Free : namespaces_over labels region offset ≡ 0 → is_held_at platform labels region offset ≡ false → IsInOne extents offset → Part platform labels region extents offset
+pub data Part (platform : Platform) (labels : Labels) (region : Region) (extents : List Extent)
+    (offset : ℕ) : Type 0 where
+  OfNamespace : namespaces_over labels region offset ≡ 1 → is_free extents offset ≡ false
+      → Part platform labels region extents offset
+  Held : namespaces_over labels region offset ≡ 0 → is_held_at platform labels region offset ≡ true
+      → is_free extents offset ≡ false → Part platform labels region extents offset
+  Free : namespaces_over labels region offset ≡ 0 → is_held_at platform labels region offset ≡ false
+      → IsInOne extents offset → Part platform labels region extents offset
 
 -- an offset that the namespace with a uuid has
 pub record IsOwn (labels : Labels) (region : Region) (uuid : List ℕ) (offset : ℕ) : Type 0 where

@@ -22,7 +22,8 @@ pub record LosesDead (platform : Platform) (before after : Labels) (handle slot 
 pub record LeavesOut (platform : Platform) (before after : Labels) : Type 0 where
   pub kind : (handle : ℕ) → (after handle).kind ≡ (before handle).kind
   pub slots : (handle : ℕ) → (after handle).slots ≡ (before handle).slots
-  pub each : (handle slot : ℕ) → ((after handle).at slot ≡ (before handle).at slot) ⊎ LosesDead platform before after handle slot
+  pub each : (handle slot : ℕ) → ((after handle).at slot ≡ (before handle).at slot)
+      ⊎ LosesDead platform before after handle slot
 
 -- a module's labels of other uuids
 abbrev pub other_labels : List ℕ → Module → Module
@@ -44,7 +45,8 @@ EachLabel region uuid labels fact = (member : Member) (slot : ℕ) (label : Labe
 
 -- they are being changed, and may be
 abbrev pub AllStale : Region → List ℕ → Labels → Type 0
-AllStale region uuid labels = EachLabel region uuid labels (λ member label. (is_updating label ≡ true) × (is_read_only label ≡ false))
+AllStale region uuid labels =
+    EachLabel region uuid labels (λ member label. (is_updating label ≡ true) × (is_read_only label ≡ false))
 
 -- they belong to the region, with one offset and one length
 abbrev pub AreAligned : Region → List ℕ → ℕ → ℕ → Labels → Type 0
@@ -53,11 +55,13 @@ AreAligned region uuid offset size labels = EachLabel region uuid labels (λ mem
 
 -- each module of the region has at most one
 abbrev pub AtMostOne : Region → List ℕ → Labels → Type 0
-AtMostOne region uuid labels = (member : Member) → Contains region.members member → label_count (labels_with uuid labels) member.handle ≤ 1
+AtMostOne region uuid labels =
+    (member : Member) → Contains region.members member → label_count (labels_with uuid labels) member.handle ≤ 1
 
 -- each module of the region has exactly one
 abbrev pub ExactlyOne : Region → List ℕ → Labels → Type 0
-ExactlyOne region uuid labels = (member : Member) → Contains region.members member → label_count (labels_with uuid labels) member.handle ≡ 1
+ExactlyOne region uuid labels =
+    (member : Member) → Contains region.members member → label_count (labels_with uuid labels) member.handle ≡ 1
 
 -- Some dead labels are left out, of any modules at once.
 pub record LeavesOutDead (platform : Platform) (before after : Labels) : Type 0 where
@@ -65,9 +69,10 @@ pub record LeavesOutDead (platform : Platform) (before after : Labels) : Type 0 
   pub bounded : IsBounded before
   pub leaves : LeavesOut platform before after
 
--- A label with the uuid comes to a member's module, which had none. All labels with the uuid in the modules of the region are
--- stale labels of it then, at most one a module, and all modules are Ready.
-pub record AddsOne (platform : Platform) (region : Region) (uuid : List ℕ) (member : Member) (before after : Labels) : Type 0 where
+-- A label with the uuid comes to a member's module, which had none. All labels with the uuid in the modules of the
+-- region are stale labels of it then, at most one a module, and all modules are Ready.
+pub record AddsOne (platform : Platform) (region : Region) (uuid : List ℕ) (member : Member)
+    (before after : Labels) : Type 0 where
   pub disjoint : IsDisjoint platform
   pub bounded : IsBounded after
   pub region_in : Contains platform.regions region
@@ -80,7 +85,8 @@ pub record AddsOne (platform : Platform) (region : Region) (uuid : List ℕ) (me
   pub few : AtMostOne region uuid after
 
 -- In a member's module the label of a namespace is replaced: the uuid is whole before and after.
-pub record ReplacesOne (platform : Platform) (region : Region) (uuid : List ℕ) (member : Member) (before after : Labels) : Type 0 where
+pub record ReplacesOne (platform : Platform) (region : Region) (uuid : List ℕ) (member : Member)
+    (before after : Labels) : Type 0 where
   pub disjoint : IsDisjoint platform
   pub bounded : IsBounded before
   pub bounded_after : IsBounded after
@@ -91,7 +97,8 @@ pub record ReplacesOne (platform : Platform) (region : Region) (uuid : List ℕ)
   pub whole_after : is_whole after region uuid ≡ true
 
 -- In a member's module the label of a namespace is freed, all of whose labels are stale.
-pub record FreesOne (platform : Platform) (region : Region) (uuid : List ℕ) (member : Member) (before after : Labels) : Type 0 where
+pub record FreesOne (platform : Platform) (region : Region) (uuid : List ℕ) (member : Member)
+    (before after : Labels) : Type 0 where
   pub disjoint : IsDisjoint platform
   pub bounded : IsBounded before
   pub region_in : Contains platform.regions region

@@ -1,5 +1,6 @@
 -- The namespaces of a region in their order, and which of them overlap.
-use Rattle.std.specs.Prelude.{ℕ, zero, suc, ◌+◌, nat_lt, Bool, not, ◌&&◌, List, [], ◌∷◌, ◌++◌, filter, Option, Some, None, if◌then◌else◌}
+use Rattle.std.specs.Prelude.{ℕ, zero, suc, ◌+◌, nat_lt, Bool, not, ◌&&◌, List, [], ◌∷◌, ◌++◌, filter, Option, Some}
+use Rattle.std.specs.Prelude.{None, if◌then◌else◌}
 use Rattle.std.specs.Cmp.Lexicographic.{slice_cmp}
 use Rattle.std.specs.declared.cmp.Ordering.{Ordering}
 use Rattle.std.specs.Option.{option_and_then, option_to_list}
@@ -18,7 +19,8 @@ space_cmp a b = ordering_then (nat_cmp a.offset b.offset) (slice_cmp nat_cmp a.u
 -- a namespace put in its place among others
 abbrev pub insert_space : Space → List Space → List Space
 insert_space new [] = new ∷ []
-insert_space new (space ∷ spaces) = if is_lt (space_cmp new space) then new ∷ space ∷ spaces else space ∷ insert_space new spaces
+insert_space new (space ∷ spaces) =
+    if is_lt (space_cmp new space) then new ∷ space ∷ spaces else space ∷ insert_space new spaces
 
 abbrev pub in_order : List Space → List Space
 in_order [] = []
@@ -32,7 +34,8 @@ spaces_below labels region at (suc slot) = spaces_below labels region at slot
 
 abbrev pub spaces_among : Labels → Region → List Member → List Space
 spaces_among labels region [] = []
-spaces_among labels region (member ∷ members) = spaces_below labels region (labels member.handle).at (labels member.handle).slots
+spaces_among labels region (member ∷ members) =
+    spaces_below labels region (labels member.handle).at (labels member.handle).slots
 
 -- the namespaces of a region, in the order of position 0's slots
 abbrev pub spaces_by_slot : Labels → Region → List Space
@@ -52,7 +55,8 @@ overlaps a b = nat_lt a.offset (b.offset + b.length) && nat_lt b.offset (a.offse
 
 abbrev pub first_clash_from : Space → List Space → Option (List ℕ × List ℕ)
 first_clash_from space [] = None
-first_clash_from space (next ∷ spaces) = if overlaps space next then Some (space.uuid, next.uuid) else first_clash_from next spaces
+first_clash_from space (next ∷ spaces) =
+    if overlaps space next then Some (space.uuid, next.uuid) else first_clash_from next spaces
 
 -- the uuids of the first two neighbours that overlap
 abbrev pub first_clash : List Space → Option (List ℕ × List ℕ)

@@ -1,5 +1,6 @@
 -- Modules as lists of slots.
-use Rattle.std.specs.Prelude.{◌≡◌, ℕ, ◌==◌, Bool, false, List, Option, Some, None, if◌then◌else◌, find, length, slice_get}
+use Rattle.std.specs.Prelude.{◌≡◌, ℕ, ◌==◌, Bool, false, List, Option, Some, None, if◌then◌else◌, find, length}
+use Rattle.std.specs.Prelude.{slice_get}
 use Rattle.std.specs.Option.{option_flatten}
 use Rattle.label_codec.specs.declared.label.Label.{Label}
 use Rattle.module_labels.specs.declared.kind.AreaKind.TheVariants.{Missing}
@@ -8,7 +9,8 @@ use Rattle.label_table.specs.declared.plain.ModuleLabels.{ModuleLabels}
 use Rattle.label_table.specs.Wholes.{any_label}
 
 abbrev pub module_in : ModuleLabels → Module
-module_in area = record { kind = area.kind; slots = length area.slots; at = λ slot. option_flatten (slice_get area.slots slot) }
+module_in area =
+    record { kind = area.kind; slots = length area.slots; at = λ slot. option_flatten (slice_get area.slots slot) }
 
 abbrev pub missing_module : Module
 missing_module = record { kind = Missing; slots = 0; at = λ slot. None }

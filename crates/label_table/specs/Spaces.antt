@@ -1,4 +1,5 @@
--- What a namespace shows: where it lies, its name, and how it is used. The mark of a change under way is apart from it.
+-- What a namespace shows: where it lies, its name, and how it is used. The mark of a change under way is apart from
+-- it.
 use Rattle.std.specs.Prelude.{ℕ, Bool, true, false, not, ◌&&◌, List, Option, Some, None}
 use Rattle.label_codec.specs.declared.label.Label.{Label}
 use Rattle.module_labels.specs.Labels.{Labels}
@@ -45,4 +46,5 @@ space labels region uuid = space_by region (labels_with uuid labels)
 -- The namespace is not read-only, and one of its labels is being changed.
 abbrev pub is_pending : Labels → Region → List ℕ → Bool
 is_pending labels region uuid =
-    is_whole labels region uuid && (not (any_read_only region (labels_with uuid labels)) && any_updating region (labels_with uuid labels))
+    is_whole labels region uuid
+    && (not (any_read_only region (labels_with uuid labels)) && any_updating region (labels_with uuid labels))

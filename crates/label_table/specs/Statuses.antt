@@ -20,7 +20,8 @@ pub data RegionStatus : Type 0 where
 -- the first member whose area is not Ready
 abbrev pub first_not_ready : (ℕ → AreaKind) → List Member → Option ℕ
 first_not_ready kind [] = None
-first_not_ready kind (member ∷ members) = if is_ready (kind member.handle) then first_not_ready kind members else Some member.handle
+first_not_ready kind (member ∷ members) =
+    if is_ready (kind member.handle) then first_not_ready kind members else Some member.handle
 
 abbrev pub status_by_clash : Option (List ℕ × List ℕ) → RegionStatus
 status_by_clash None = RegionReady

@@ -27,10 +27,12 @@ pub record State : Type 0 where
   pub pending : ℕ → List ℕ → Bool
 
 abbrev pub space_at : Platform → Labels → ℕ → List ℕ → Option Space
-space_at platform labels index uuid = option_map_or (λ region. space labels region uuid) (region_at platform index) None
+space_at platform labels index uuid =
+    option_map_or (λ region. space labels region uuid) (region_at platform index) None
 
 abbrev pub pending_at : Platform → Labels → ℕ → List ℕ → Bool
-pending_at platform labels index uuid = option_map_or (λ region. is_pending labels region uuid) (region_at platform index) false
+pending_at platform labels index uuid =
+    option_map_or (λ region. is_pending labels region uuid) (region_at platform index) false
 
 abbrev pub table : Platform → Labels → Table
 table platform labels = record {
@@ -108,7 +110,8 @@ with_changed_namespace region space mark state = record {
 }
 
 -- The table changes at one namespace of a region alone, and may change in spare slots and held labels.
-pub record ChangesAt (platform : Platform) (region : Region) (uuid : List ℕ) (new : Option Space) (before after : Labels) : Type 0 where
+pub record ChangesAt (platform : Platform) (region : Region) (uuid : List ℕ) (new : Option Space)
+    (before after : Labels) : Type 0 where
   pub disjoint : IsDisjoint platform
   pub region_in : Contains platform.regions region
   pub kinds : (table platform after).kind ≡ (table platform before).kind

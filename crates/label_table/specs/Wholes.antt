@@ -31,11 +31,13 @@ is_doubled_by region own = list_any (λ (member : Member). nat_lt 1 (label_count
 
 -- one of them is read-only
 abbrev pub any_read_only : Region → Labels → Bool
-any_read_only region own = list_any (λ (member : Member). nat_lt 0 (number is_read_only (own member.handle))) region.members
+any_read_only region own =
+    list_any (λ (member : Member). nat_lt 0 (number is_read_only (own member.handle))) region.members
 
 -- one of them is being changed
 abbrev pub any_updating : Region → Labels → Bool
-any_updating region own = list_any (λ (member : Member). nat_lt 0 (number is_updating (own member.handle))) region.members
+any_updating region own =
+    list_any (λ (member : Member). nat_lt 0 (number is_updating (own member.handle))) region.members
 
 -- the label of the module at position 0
 abbrev pub leading_among : List Member → Labels → Option Label
@@ -51,7 +53,8 @@ agrees region label handle other = belongs region handle other && offset_in regi
 
 -- the module has one of them, and it agrees with a label
 abbrev pub has_one : Region → Label → Labels → Member → Bool
-has_one region label own member = label_count own member.handle == 1 && number (agrees region label member.handle) (own member.handle) == 1
+has_one region label own member =
+    label_count own member.handle == 1 && number (agrees region label member.handle) (own member.handle) == 1
 
 -- one of the module has the length of a label
 abbrev pub has_size : Label → Labels → Member → Bool
@@ -59,11 +62,13 @@ has_size label own member = number (λ other. other.raw_size == label.raw_size) 
 
 -- all have one length, or the label of position 0 is being changed
 abbrev pub sizes_agree : Region → Label → Labels → Bool
-sizes_agree region label own = list_all (has_size label own) region.members || (is_updating label && not (any_read_only region own))
+sizes_agree region label own =
+    list_all (has_size label own) region.members || (is_updating label && not (any_read_only region own))
 
 abbrev pub is_whole_after : Region → Labels → Option Label → Bool
 is_whole_after region own None = false
-is_whole_after region own (Some label) = list_all (has_one region label own) region.members && sizes_agree region label own
+is_whole_after region own (Some label) =
+    list_all (has_one region label own) region.members && sizes_agree region label own
 
 abbrev pub is_whole_by : Region → Labels → Bool
 is_whole_by region own = all_ready region own && is_whole_after region own (leading_label region own)
@@ -72,7 +77,7 @@ is_whole_by region own = all_ready region own && is_whole_after region own (lead
 abbrev pub is_doubled : Labels → Region → List ℕ → Bool
 is_doubled labels region uuid = is_doubled_by region (labels_with uuid labels)
 
--- Every module of the region is Ready and has exactly one live label with the uuid. Each of these belongs to the region, and
--- all have one offset. All have one RawSize, or that of position 0 is being changed and none is read-only.
+-- Every module of the region is Ready and has exactly one live label with the uuid. Each of these belongs to the
+-- region, and all have one offset. All have one RawSize, or that of position 0 is being changed and none is read-only.
 abbrev pub is_whole : Labels → Region → List ℕ → Bool
 is_whole labels region uuid = is_whole_by region (labels_with uuid labels)

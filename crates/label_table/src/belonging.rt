@@ -3,7 +3,8 @@
 ghost use Rattle.std.specs.Prelude.{◌≡◌};
 ghost use Rattle.std.specs.Option.{option_copied};
 ghost use Rattle.module_labels.specs.Labels.{has};
-ghost use Rattle.label_table.specs.Belonging.{belongs, is_persistent, is_shared_range, lies_within, member_at, names_set, offset_in, region_of};
+ghost use Rattle.label_table.specs.Belonging.{belongs, is_persistent, is_shared_range, lies_within, member_at};
+ghost use Rattle.label_table.specs.Belonging.{names_set, offset_in, region_of};
 
 use label_codec::Label;
 use region_map::{Member, Platform, Region};

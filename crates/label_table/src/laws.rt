@@ -18,7 +18,8 @@ ghost use Rattle.label_table.specs.Settling.{IsInitialised, IsReleased, settled,
 ghost use Rattle.label_table.specs.Spaces.{Space, space};
 ghost use Rattle.label_table.specs.Spaces.{is_pending};
 ghost use Rattle.label_table.specs.Statuses.{RegionReady, status};
-ghost use Rattle.label_table.specs.Tables.{ChangesAt, State, state, table, with_changed_namespace, with_namespace, without_namespace};
+ghost use Rattle.label_table.specs.Tables.{ChangesAt, State, state, table, with_changed_namespace, with_namespace};
+ghost use Rattle.label_table.specs.Tables.{without_namespace};
 ghost use Rattle.label_table.specs.Wholes.{all_ready, any_read_only, is_doubled, is_whole, label_count, labels_with};
 
 /// Which region a label belongs to.
@@ -28,10 +29,12 @@ pub fn region_laws()
 
     // At most one region has a label.
     ensures one_region { (platform : Platform) (region : Region) (handle : ℕ) (label : Label) → IsDisjoint platform
-        → Contains platform.regions region → belongs region handle label ≡ true → region_of platform handle label ≡ Some region }
+        → Contains platform.regions region → belongs region handle label ≡ true
+        → region_of platform handle label ≡ Some region }
 
     // Its position is that of its module.
-    ensures own_position { (platform : Platform) (region : Region) (handle : ℕ) (label : Label) (position : ℕ) → IsDisjoint platform
+    ensures own_position { (platform : Platform) (region : Region) (handle : ℕ) (label : Label) (position : ℕ)
+        → IsDisjoint platform
         → Contains platform.regions region → belongs region handle label ≡ true
         → position < length region.members → (member_at region position).handle ≡ handle → label.position ≡ position }
 {}
@@ -44,11 +47,14 @@ pub fn dead_label_laws()
         → label_count (labels_with label.uuid labels) handle ≡ 1 }
 
     // To leave out dead labels changes neither which others are dead, nor which uuids are whole or doubled.
-    ensures dead { (platform : Platform) (before after : Labels) → LeavesOutDead platform before after → (handle : ℕ) (label : Label)
+    ensures dead { (platform : Platform) (before after : Labels) → LeavesOutDead platform before after
+        → (handle : ℕ) (label : Label)
         → is_dead platform after handle label ≡ is_dead platform before handle label }
-    ensures whole { (platform : Platform) (before after : Labels) → LeavesOutDead platform before after → (region : Region) (uuid : List ℕ)
+    ensures whole { (platform : Platform) (before after : Labels) → LeavesOutDead platform before after
+        → (region : Region) (uuid : List ℕ)
         → Contains platform.regions region → is_whole after region uuid ≡ is_whole before region uuid }
-    ensures doubled { (platform : Platform) (before after : Labels) → LeavesOutDead platform before after → (region : Region) (uuid : List ℕ)
+    ensures doubled { (platform : Platform) (before after : Labels) → LeavesOutDead platform before after
+        → (region : Region) (uuid : List ℕ)
         → is_doubled after region uuid ≡ is_doubled before region uuid }
 {}
 
@@ -59,21 +65,27 @@ pub fn table_laws()
         → one ≡ state platform labels → other ≡ state platform labels → one ≡ other }
 
     // Where two tables are equal, so are the namespaces of each region, its status and its free offsets.
-    ensures same_namespaces { (platform : Platform) (before after : Labels) → IsDisjoint platform → table platform after ≡ table platform before
+    ensures same_namespaces { (platform : Platform) (before after : Labels) → IsDisjoint platform
+        → table platform after ≡ table platform before
         → (region : Region) → Contains platform.regions region → namespaces after region ≡ namespaces before region }
-    ensures same_status { (platform : Platform) (before after : Labels) → IsDisjoint platform → table platform after ≡ table platform before
+    ensures same_status { (platform : Platform) (before after : Labels) → IsDisjoint platform
+        → table platform after ≡ table platform before
         → (region : Region) → Contains platform.regions region → status after region ≡ status before region }
-    ensures same_free { (platform : Platform) (before after : Labels) → IsDisjoint platform → table platform after ≡ table platform before
-        → (region : Region) → Contains platform.regions region → is_common_free platform after region ≡ is_common_free platform before region }
+    ensures same_free { (platform : Platform) (before after : Labels) → IsDisjoint platform
+        → table platform after ≡ table platform before
+        → (region : Region) → Contains platform.regions region
+        → is_common_free platform after region ≡ is_common_free platform before region }
 
     // The list of namespaces has each of them, and no other.
-    ensures listed { (labels : Labels) (region : Region) (uuid : List ℕ) (one : Space) → space labels region uuid ≡ Some one
+    ensures listed { (labels : Labels) (region : Region) (uuid : List ℕ) (one : Space)
+        → space labels region uuid ≡ Some one
         → Contains (namespaces labels region) one }
     ensures stands { (labels : Labels) (region : Region) (one : Space) → Contains (namespaces labels region) one
         → space labels region one.uuid ≡ Some one }
 
     // Each lies within the region, and is not empty.
-    ensures within { (platform : Platform) (labels : Labels) (region : Region) (uuid : List ℕ) (one : Space) → IsDisjoint platform
+    ensures within { (platform : Platform) (labels : Labels) (region : Region) (uuid : List ℕ) (one : Space)
+        → IsDisjoint platform
         → Contains platform.regions region → space labels region uuid ≡ Some one
         → (one.offset + one.length ≤ part_size region) × (0 < one.length) }
 {}
@@ -102,26 +114,33 @@ pub fn flip_laws()
         → state platform after ≡ state platform before }
 
     // With an aligned label in each module the uuid is whole, and by the last one the namespace stands. It is pending.
-    ensures whole { (region : Region) (uuid : List ℕ) (offset size : ℕ) (labels : Labels) (member : Member) (members : List Member)
+    ensures whole { (region : Region) (uuid : List ℕ) (offset size : ℕ) (labels : Labels) (member : Member)
+        (members : List Member)
         → all_ready region labels ≡ true → AreAligned region uuid offset size labels → ExactlyOne region uuid labels
         → region.members ≡ member ∷ members → is_whole labels region uuid ≡ true }
-    ensures completed { (platform : Platform) (region : Region) (uuid : List ℕ) (member : Member) (before after : Labels) (new : Space)
+    ensures completed { (platform : Platform) (region : Region) (uuid : List ℕ) (member : Member)
+        (before after : Labels) (new : Space)
         → AddsOne platform region uuid member before after → space after region uuid ≡ Some new
         → state platform after ≡ with_namespace region new (state platform before) }
 
     // By a label that is replaced, a namespace shows what it shows now, and all else is kept.
-    ensures replaced { (platform : Platform) (region : Region) (uuid : List ℕ) (member : Member) (before after : Labels) (new : Space)
+    ensures replaced { (platform : Platform) (region : Region) (uuid : List ℕ) (member : Member)
+        (before after : Labels) (new : Space)
         → ReplacesOne platform region uuid member before after → space after region uuid ≡ Some new
-        → state platform after ≡ with_changed_namespace region new (is_pending after region uuid) (state platform before) }
+        → state platform after ≡ with_changed_namespace region new (is_pending after region uuid)
+        (state platform before) }
     ensures kept { (platform : Platform) (region : Region) (uuid : List ℕ) (member : Member) (before after : Labels)
         → ReplacesOne platform region uuid member before after → space after region uuid ≡ space before region uuid
         → table platform after ≡ table platform before }
 
     // Behind position 0 that is the table as it was, unless a label is read-only.
-    ensures elsewhere { (platform : Platform) (region : Region) (uuid : List ℕ) (member : Member) (before after : Labels)
+    ensures elsewhere { (platform : Platform) (region : Region) (uuid : List ℕ) (member : Member)
+        (before after : Labels)
         (leading : Member) (members : List Member)
-        → ReplacesOne platform region uuid member before after → region.members ≡ leading ∷ members → leading.handle ≢ member.handle
-        → any_read_only region (labels_with uuid before) ≡ false → any_read_only region (labels_with uuid after) ≡ false
+        → ReplacesOne platform region uuid member before after → region.members ≡ leading ∷ members
+        → leading.handle ≢ member.handle
+        → any_read_only region (labels_with uuid before) ≡ false
+        → any_read_only region (labels_with uuid after) ≡ false
         → table platform after ≡ table platform before }
 
     // By one label less, a namespace whose labels are all stale is gone.
@@ -132,7 +151,8 @@ pub fn flip_laws()
 
 /// What becomes of the status of each region when a namespace is gone, is new, or shows something else.
 pub fn status_laws()
-    ensures elsewhere { (platform : Platform) (region other : Region) (uuid : List ℕ) (new : Option Space) (before after : Labels)
+    ensures elsewhere { (platform : Platform) (region other : Region) (uuid : List ℕ) (new : Option Space)
+        (before after : Labels)
         → ChangesAt platform region uuid new before after → Contains platform.regions other → other ≢ region
         → status after other ≡ status before other }
 
@@ -149,14 +169,19 @@ pub fn status_laws()
 
 /// What becomes of the table when an area is initialised, and when held labels are released. The pending marks stay.
 pub fn settling_laws()
-    ensures initialised { (platform : Platform) (handle slots : ℕ) (before after : Labels) → IsDisjoint platform → IsBounded before
+    ensures initialised { (platform : Platform) (handle slots : ℕ) (before after : Labels) → IsDisjoint platform
+        → IsBounded before
         → IsInitialised handle slots before after
         → table platform after ≡ settled platform (with_ready_area handle slots (table platform before)) }
-    ensures initialised_marks { (platform : Platform) (handle slots : ℕ) (before after : Labels) → IsDisjoint platform → IsBounded before
+    ensures initialised_marks { (platform : Platform) (handle slots : ℕ) (before after : Labels) → IsDisjoint platform
+        → IsBounded before
         → IsInitialised handle slots before after → (state platform after).pending ≡ (state platform before).pending }
-    ensures released { (platform : Platform) (handle : ℕ) (uuid : List ℕ) (before after : Labels) → IsDisjoint platform → IsBounded before
+    ensures released { (platform : Platform) (handle : ℕ) (uuid : List ℕ) (before after : Labels) → IsDisjoint platform
+        → IsBounded before
         → IsReleased platform handle uuid before after
         → table platform after ≡ settled platform (without_held handle uuid (table platform before)) }
-    ensures released_marks { (platform : Platform) (handle : ℕ) (uuid : List ℕ) (before after : Labels) → IsDisjoint platform → IsBounded before
-        → IsReleased platform handle uuid before after → (state platform after).pending ≡ (state platform before).pending }
+    ensures released_marks { (platform : Platform) (handle : ℕ) (uuid : List ℕ) (before after : Labels)
+        → IsDisjoint platform → IsBounded before
+        → IsReleased platform handle uuid before after
+        → (state platform after).pending ≡ (state platform before).pending }
 {}

@@ -10,3 +10,6 @@ pub use laws::{
     dead_label_laws, division_laws, flip_laws, region_laws, settling_laws, status_laws, table_laws,
 };
 pub use plain::{ModuleLabels, is_dead, is_doubled, is_whole};
+
+#[cfg(test)]
+mod tests;

@@ -9,7 +9,9 @@ ghost use Rattle.region_map.specs.declared.platform.Member.{Member};
 ghost use Rattle.label_table.specs.Belonging.{region_of};
 ghost use Rattle.label_table.specs.Fates.{is_dead, is_unfinished};
 ghost use Rattle.label_table.specs.Plain.{IsOnly, labels_in};
-ghost use Rattle.label_table.specs.Wholes.{agrees, all_ready, any_label, any_read_only, has_one, has_size, is_doubled, is_whole, is_whole_after, label_count, labels_with, leading_label, sizes_agree};
+ghost use Rattle.label_table.specs.Wholes.{agrees, all_ready, any_label, any_read_only, has_one, has_size, is_doubled};
+ghost use Rattle.label_table.specs.Wholes.{is_whole, is_whole_after, label_count, labels_with, leading_label};
+ghost use Rattle.label_table.specs.Wholes.{sizes_agree};
 
 use crate::belonging::{belongs, has_uuid, offset_in, region_of};
 use label_codec::Label;
@@ -85,7 +87,11 @@ impl ModuleLabels {
     fn only(&self, uuid: &[u8; 16]) -> Option<&Label>
         ensures { IsOnly uuid.now (module_in self.now) (option_copied result) }
     {
-        if self.count(uuid) == 1 { self.first(uuid) } else { None }
+        if self.count(uuid) == 1 {
+            self.first(uuid)
+        } else {
+            None
+        }
     }
 }
 
@@ -178,7 +184,11 @@ fn first_label<'a>(modules: &'a [ModuleLabels], handle: u32, uuid: &[u8; 16]) ->
 }
 
 /// The label of the module at position 0 that has the uuid.
-fn leading_label<'a>(modules: &'a [ModuleLabels], region: &Region, uuid: &[u8; 16]) -> Option<&'a Label>
+fn leading_label<'a>(
+    modules: &'a [ModuleLabels],
+    region: &Region,
+    uuid: &[u8; 16],
+) -> Option<&'a Label>
     ensures { option_copied result ≡ leading_label region.now (labels_with uuid.now (labels_in modules.now)) }
 {
     match region.members.as_slice() {
@@ -195,7 +205,13 @@ fn agrees(region: &Region, leading: &Label, handle: u32, label: &Label) -> bool
 }
 
 /// The member's module has one label with the uuid, which agrees with another.
-fn has_one(modules: &[ModuleLabels], region: &Region, uuid: &[u8; 16], leading: &Label, member: &Member) -> bool
+fn has_one(
+    modules: &[ModuleLabels],
+    region: &Region,
+    uuid: &[u8; 16],
+    leading: &Label,
+    member: &Member,
+) -> bool
     ensures { result ≡ has_one region.now leading.now (labels_with uuid.now (labels_in modules.now)) member.now }
 {
     match only_label(modules, member.handle, uuid) {
@@ -206,7 +222,9 @@ fn has_one(modules: &[ModuleLabels], region: &Region, uuid: &[u8; 16], leading: 
 
 /// One label of the module with the uuid has this size.
 fn has_one_of_size(modules: &[ModuleLabels], uuid: &[u8; 16], leading: &Label, handle: u32) -> bool
-    ensures { result ≡ (number (λ label. label.raw_size == leading.now.raw_size) (labels_with uuid.now (labels_in modules.now) handle) == 1) }
+    ensures { result ≡
+        (number (λ label. label.raw_size == leading.now.raw_size)
+        (labels_with uuid.now (labels_in modules.now) handle) == 1) }
 {
     match module_of(modules, handle) {
         Some(area) => area.count_size(uuid, leading.raw_size) == 1,
@@ -237,7 +255,8 @@ pub fn is_doubled(modules: &[ModuleLabels], region: &Region, uuid: &[u8; 16]) ->
 
 /// Each module of the region has one label with the uuid, which agrees with another.
 fn all_have_one(modules: &[ModuleLabels], region: &Region, uuid: &[u8; 16], leading: &Label) -> bool
-    ensures { result ≡ list_all (has_one region.now leading.now (labels_with uuid.now (labels_in modules.now))) region.now.members }
+    ensures { result ≡
+        list_all (has_one region.now leading.now (labels_with uuid.now (labels_in modules.now))) region.now.members }
 {
     region
         .members
@@ -247,14 +266,21 @@ fn all_have_one(modules: &[ModuleLabels], region: &Region, uuid: &[u8; 16], lead
 }
 
 /// One label of each module has the size of another.
-fn all_have_size(modules: &[ModuleLabels], region: &Region, uuid: &[u8; 16], leading: &Label) -> bool
-    ensures { result ≡ list_all (has_size leading.now (labels_with uuid.now (labels_in modules.now))) region.now.members }
+fn all_have_size(
+    modules: &[ModuleLabels],
+    region: &Region,
+    uuid: &[u8; 16],
+    leading: &Label,
+) -> bool
+    ensures { result ≡
+        list_all (has_size leading.now (labels_with uuid.now (labels_in modules.now))) region.now.members }
 {
-    region
-        .members
-        .as_slice()
-        .iter()
-        .all(|member| has_one_of_size(modules, uuid, leading, member.handle))
+    region.members.as_slice().iter().all(|member| has_one_of_size(
+        modules,
+        uuid,
+        leading,
+        member.handle,
+    ))
 }
 
 /// Some label with the uuid is read-only.
@@ -277,7 +303,12 @@ fn sizes_agree(modules: &[ModuleLabels], region: &Region, uuid: &[u8; 16], leadi
 }
 
 /// With this label at position 0 the labels with the uuid are a namespace's, whatever the areas are.
-fn is_whole_after(modules: &[ModuleLabels], region: &Region, uuid: &[u8; 16], leading: &Label) -> bool
+fn is_whole_after(
+    modules: &[ModuleLabels],
+    region: &Region,
+    uuid: &[u8; 16],
+    leading: &Label,
+) -> bool
     ensures { result ≡ is_whole_after region.now (labels_with uuid.now (labels_in modules.now)) (Some leading.now) }
 {
     all_have_one(modules, region, uuid, leading) && sizes_agree(modules, region, uuid, leading)
@@ -288,7 +319,8 @@ pub fn is_whole(modules: &[ModuleLabels], region: &Region, uuid: &[u8; 16]) -> b
     ensures { result ≡ is_whole (labels_in modules.now) region.now uuid.now }
 {
     let leading = leading_label(modules, region, uuid);
-    all_ready(modules, region) && leading.is_some_and(|leading| is_whole_after(modules, region, uuid, leading))
+    all_ready(modules, region)
+        && leading.is_some_and(|leading| is_whole_after(modules, region, uuid, leading))
 }
 
 /// The label's region has all its modules, and its uuid is neither whole nor doubled there.

@@ -5,11 +5,13 @@ use Rattle.module_labels.specs.Labels.{Module, Labels}
 
 -- a module without the labels of the slots that pass a test
 abbrev pub without_slots : (ℕ → Bool) → Module → Module
-without_slots freed area = record { kind = area.kind; slots = area.slots; at = λ slot. if freed slot then None else area.at slot }
+without_slots freed area =
+    record { kind = area.kind; slots = area.slots; at = λ slot. if freed slot then None else area.at slot }
 
 -- a module with a label in a slot
 abbrev pub with_label : ℕ → Label → Module → Module
-with_label put label area = record { kind = area.kind; slots = area.slots; at = λ slot. if slot == put then Some label else area.at slot }
+with_label put label area =
+    record { kind = area.kind; slots = area.slots; at = λ slot. if slot == put then Some label else area.at slot }
 
 -- the labels of all modules, with another module at one handle
 abbrev pub with_module : ℕ → Module → Labels → Labels
