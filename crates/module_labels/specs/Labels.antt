@@ -6,8 +6,8 @@ use Rattle.label_codec.specs.declared.label.Label.{Label}
 use Rattle.module_labels.specs.declared.kind.AreaKind.{AreaKind}
 use Rattle.module_labels.specs.declared.kind.AreaKind.TheVariants.{Missing, WrongSize, Ready, Foreign, Uninit}
 
--- A module: the kind of its label storage area, the number of slots there, and the live label of each slot, counted from
--- 0. An area that is not Ready has neither slots nor labels.
+-- A module: the kind of its label storage area, the number of slots there, and the live label of each slot, counted
+-- from 0. An area that is not Ready has neither slots nor labels.
 pub record Module : Type 0 where
   pub kind : AreaKind
   pub slots : ℕ
