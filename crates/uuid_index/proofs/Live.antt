@@ -8,7 +8,8 @@ use Rattle.std.proofs.lemmas.List.Sorted.{Contains-permutation, IsPermutation-sy
 use Rattle.std.proofs.lemmas.List.Sums.{sum_by-append}
 use Rattle.std.proofs.lemmas.Slice.Eq.{bytes_eq-Decides}
 use Rattle.label_codec.specs.declared.label.Label.{Label}
-use Rattle.module_labels.specs.Labels.{Labels, Module, count, has, number, one}
+use Rattle.module_labels.specs.Labels.{Labels, Module, count, has, label_if, number, of_uuid, one}
+use Rattle.module_labels.proofs.Counting.{count-same}
 use Rattle.uuid_index.specs.declared.entry.Entry.{Entry}
 use Rattle.uuid_index.specs.declared.index.Found.{Found}
 use Rattle.uuid_index.specs.declared.index.Found.TheVariants.{Nowhere, Once, Repeated}
@@ -131,3 +132,15 @@ found_label uuid position modules labels entries Nowhere index lt none = sym (ti
 found_label uuid position modules labels entries (Once slot) index lt once =
     (sym (times-index uuid position modules labels entries index lt) ∙ once.0, live-index modules labels entries (record { uuid = uuid; position = position; slot = slot }) index once.1)
 found_label uuid position modules labels entries Repeated index lt more = subst (λ n. 2 ≤ n) (times-index uuid position modules labels entries index lt) more
+
+-- the labels of the uuid, counted after the others are left out
+pub number-of_uuid-any : (uuid : List ℕ) (area : Module) → number (λ _. true) (of_uuid uuid area) ≡ number (has uuid) area
+number-of_uuid-any uuid area = count-same (λ _. true) (has uuid) (λ slot. label_if (has uuid) (area.at slot)) area.at area.slots (λ k lt. one-if (area.at k))
+  where
+    one-if : (label : Option Label) → one (λ _. true) (label_if (has uuid) label) ≡ one (has uuid) label
+    one-if None = refl
+    one-if (Some l) = by (has uuid l)
+      where
+        by : (b : Bool) → one (λ _. true) (cond b (Some l) None) ≡ cond b 1 0
+        by true = refl
+        by false = refl
