@@ -6,7 +6,9 @@ use Rattle.std.specs.Option.{option_map, option_to_list}
 use Rattle.label_codec.specs.declared.label.Label.{Label}
 use Rattle.module_labels.specs.Labels.{Labels, Module}
 use Rattle.uuid_index.specs.declared.entry.Entry.{Entry}
+use Rattle.uuid_index.specs.declared.index.Found.{Found}
 use Rattle.uuid_index.specs.Entries.{IsOrdered, entry_of}
+use Rattle.uuid_index.specs.Found.{IsFoundLabel}
 
 -- the entry of a slot of the module at a position, if a label is live there
 abbrev pub entry_at : ℕ → ℕ → Option Label → List Entry
@@ -59,3 +61,22 @@ pub record GainsLabel (modules : List ℕ) (entry : Entry) (before after : Label
 -- the slot loses its label: the same, read backwards
 abbrev pub LosesLabel : List ℕ → Entry → Labels → Labels → Type 0
 LosesLabel modules entry before after = GainsLabel modules entry after before
+
+-- In what follows the facts hold for whatever labels the entries are an index of.
+
+-- entries are an index of the labels whose entries were given, in any order
+abbrev pub IsIndexOfGiven : List Entry → List Entry → Type 0
+IsIndexOfGiven given entries = (modules : List ℕ) (labels : Labels) → IsPermutation (live_entries modules labels) given → IsIndex modules labels entries
+
+-- what is found among the entries is so among the labels of the module at the position
+abbrev pub IsFoundInLabels : List ℕ → ℕ → List Entry → Found → Type 0
+IsFoundInLabels uuid position entries found = (modules : List ℕ) (labels : Labels) → IsIndex modules labels entries → position < length modules
+    → IsFoundLabel uuid (labels (slice_index modules position)) found
+
+-- an index of labels is now one of those with the label that the entry names
+abbrev pub FollowsGain : Entry → List Entry → List Entry → Type 0
+FollowsGain entry old now = (modules : List ℕ) (before after : Labels) → GainsLabel modules entry before after → IsIndex modules before old → IsIndex modules after now
+
+-- or of those without it
+abbrev pub FollowsLoss : Entry → List Entry → List Entry → Type 0
+FollowsLoss entry old now = (modules : List ℕ) (before after : Labels) → LosesLabel modules entry before after → IsIndex modules before old → IsIndex modules after now

@@ -1,6 +1,6 @@
 //! Entries in order, and how they are found and changed.
 
-ghost use Rattle.std.specs.Prelude.{◌≡◌, ◌≤◌, length};
+ghost use Rattle.std.specs.Prelude.{◌≡◌, ◌≤◌};
 ghost use Rattle.uuid_index.specs.declared.entry.Entry.{Entry};
 ghost use Rattle.uuid_index.specs.Entries.{IsOrdered, IsPlace, IsStart, has_at};
 ghost use Rattle.uuid_index.specs.Found.{IsFound};
@@ -25,31 +25,29 @@ pub struct Index {
 }
 
 impl Model for Index {
-    ghost use Rattle.std.specs.Prelude.{◌-◌, vec_capacity, vec_len};
-    ghost use Rattle.uuid_index.specs.Contents.{Contents};
+    ghost use Rattle.uuid_index.specs.Contents.{Contents, contents_of};
     ghost use Rattle.uuid_index.specs.Entries.{IsOrdered};
 
     ghost Value = { Contents };
 
-    ghost view = { λ index. record { entries = index.entries.items; room = vec_capacity index.entries - vec_len index.entries } };
+    ghost view = { λ index. contents_of index.entries };
 
     ghost invariant = { λ index. IsOrdered index.entries.items };
 }
 
 impl Index {
-    ghost use Rattle.std.specs.Prelude.{◌+◌, ◌<◌, ◌↔◌, ◌∷◌, ℕ, List, IsOk, IsTrue, OnOk, slice_index, vec_capacity, vec_len, ◌-◌};
+    ghost use Rattle.std.specs.Prelude.{◌+◌, ◌<◌, ◌↔◌, ◌∷◌, IsOk, IsTrue, OnOk};
     ghost use Rattle.std.specs.Bool.{OnFalse, OnTrue};
     ghost use Rattle.std.specs.List.{Contains};
     ghost use Rattle.std.specs.List.Sorted.{IsPermutation};
-    ghost use Rattle.module_labels.specs.Labels.{Labels};
-    ghost use Rattle.uuid_index.specs.Found.{IsFoundLabel};
-    ghost use Rattle.uuid_index.specs.Labels.{GainsLabel, IsIndex, LosesLabel, live_entries};
+    ghost use Rattle.uuid_index.specs.Contents.{contents_of};
+    ghost use Rattle.uuid_index.specs.Labels.{FollowsGain, FollowsLoss, IsFoundInLabels, IsIndexOfGiven};
 
     /// The index of these entries. It takes no memory.
     pub fn of(mut entries: Vec<Entry>) -> Index
         ensures entries { IsPermutation entries.items result.entries }
-        ensures room { result.room ≡ vec_capacity entries - vec_len entries }
-        ensures labels { (modules : List ℕ) (labels : Labels) → IsPermutation (live_entries modules labels) entries.items → IsIndex modules labels result.entries }
+        ensures room { result.room ≡ (contents_of entries).room }
+        ensures labels { IsIndexOfGiven entries.items result.entries }
     {
         entries.sort_unstable();
         Index { entries }
@@ -58,7 +56,7 @@ impl Index {
     /// How many live labels with this uuid the module at a position has, and the slot of the only one.
     pub fn find(&self, uuid: &[u8; 16], position: usize) -> Found
         ensures found { IsFound uuid.now position self.now.entries result }
-        ensures labels { (modules : List ℕ) (labels : Labels) → IsIndex modules labels self.now.entries → position < length modules → IsFoundLabel uuid.now (labels (slice_index modules position)) result }
+        ensures labels { IsFoundInLabels uuid.now position self.now.entries result }
     {
         found_in(&self.entries, uuid, position)
     }
@@ -94,7 +92,7 @@ impl Index {
         requires { 0 < self.old.room }
         ensures entries { IsPermutation (entry ∷ self.old.entries) self.new.entries }
         ensures room { self.new.room + 1 ≡ self.old.room }
-        ensures labels { (modules : List ℕ) (before after : Labels) → GainsLabel modules entry before after → IsIndex modules before self.old.entries → IsIndex modules after self.new.entries }
+        ensures labels { FollowsGain entry self.old.entries self.new.entries }
     {
         let at = place_of(&self.entries, &entry);
         let _ = self.entries.insert(at, entry);
@@ -107,7 +105,7 @@ impl Index {
         ensures removed { OnTrue result (IsPermutation self.old.entries (entry.now ∷ self.new.entries)) }
         ensures unchanged { OnFalse result (self.new ≡ self.old) }
         ensures room { OnTrue result (self.new.room ≡ self.old.room + 1) }
-        ensures labels { (modules : List ℕ) (before after : Labels) → LosesLabel modules entry.now before after → IsIndex modules before self.old.entries → IsIndex modules after self.new.entries }
+        ensures labels { FollowsLoss entry.now self.old.entries self.new.entries }
     {
         match self.entries.binary_search(entry) {
             Ok(at) => {
