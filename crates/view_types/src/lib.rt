@@ -2,12 +2,16 @@
 #![tactic(auto)]
 
 mod guids;
+mod key;
 mod list;
 mod rule;
+mod word_fault;
 
 pub use guids::{PERSISTENT_MEMORY, persistent_memory};
+pub use key::Key;
 pub use list::List;
 pub use rule::Rule;
+pub use word_fault::WordFault;
 
 #[cfg(test)]
 mod tests;
