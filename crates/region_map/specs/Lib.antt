@@ -1,0 +1,5 @@
+pub mod Records
+pub mod Cookies
+pub mod Rules
+pub mod Platforms
+pub mod Sound

@@ -2,6 +2,17 @@
 //! region cannot be used, the modules, and the line tables of interleave sets.
 #![tactic(auto)]
 
+mod cookies;
+mod laws;
+mod modules;
 mod platform;
+mod records;
+mod regions;
+mod rules;
 
+pub use cookies::{cookie11, cookie12};
+pub use laws::{disjoint_regions, regions_by_index, unusable_regions, usable_regions};
 pub use platform::{LineTable, Member, Platform, Region};
+
+#[cfg(test)]
+mod tests;

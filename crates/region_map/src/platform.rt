@@ -1,5 +1,13 @@
-//! What a platform holds.
+//! The platform of a table.
 
+ghost use Rattle.std.specs.Prelude.{◌≡◌, ◌==◌, find, IfOk};
+ghost use Rattle.std.specs.Option.{option_copied};
+
+use crate::modules::modules;
+use crate::records::{all_control_fields, parts_of_ranges, ranges_by_index, tables_by_index};
+use crate::regions::regions;
+use nfit_tables::Nfit;
+use std::alloc::{AllocError, Global};
 use view_types::{List, Rule};
 
 /// A module's part of a region: a region mapping (ACPI 6.2, section 5.2.25.3) with fields of its control region (section
@@ -65,4 +73,36 @@ pub struct Platform {
     pub modules: List<u32>,
     /// The line tables, by ascending index.
     pub tables: List<LineTable>,
+}
+
+impl Platform {
+    ghost use Rattle.nfit_tables.specs.Proper.{IsProper};
+    ghost use Rattle.region_map.specs.Platforms.{IsPlatformOf, IsSound};
+
+    /// The platform of a proper table, as `read_nfit` gives it.
+    pub fn of(alloc: Global, nfit: &Nfit) -> Result<Platform, AllocError>
+        requires { IsProper nfit.now }
+        ensures platform { IfOk result (λ platform. IsPlatformOf nfit.now platform) }
+        ensures sound { IfOk result (λ platform. IsSound platform) }
+    {
+        let pieces = nfit.pieces.as_slice();
+        let ranges = ranges_by_index(alloc, pieces)?;
+        let parts = parts_of_ranges(alloc, pieces, &ranges)?;
+        let controls = all_control_fields(alloc, pieces)?;
+        Ok(Platform {
+            regions: regions(alloc, &parts, &controls, &ranges)?,
+            modules: modules(alloc, pieces)?,
+            tables: tables_by_index(alloc, pieces)?,
+        })
+    }
+
+    /// The region with an index. `None` exactly where there is none.
+    pub fn region(&self, index: u16) -> Option<&Region>
+        ensures { option_copied result ≡ find (λ region. region.index == index) self.now.regions }
+    {
+        self.regions
+            .as_slice()
+            .iter()
+            .find(|region| region.index == index)
+    }
 }

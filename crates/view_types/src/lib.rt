@@ -1,12 +1,14 @@
 //! The plain types that layers hand to each other.
 #![tactic(auto)]
 
+mod extents;
 mod guids;
 mod key;
 mod list;
 mod rule;
 mod word_fault;
 
+pub use extents::Extent;
 pub use guids::{PERSISTENT_MEMORY, persistent_memory};
 pub use key::Key;
 pub use list::List;

@@ -1,0 +1,21 @@
+mod Examples
+mod Rows
+pub mod Tests
+pub mod WholeUuids
+pub mod Leaving
+pub mod Confined
+pub mod Equations
+pub mod Losing
+pub mod Staging
+pub mod Changing
+pub mod Order
+pub mod Listed
+pub mod Clashes
+pub mod StatusLaws
+pub mod Partition
+pub mod OneFlip
+pub mod Settled
+pub mod Initialising
+pub mod Releasing
+pub mod SoundPlatforms
+pub mod OnlyLabels

@@ -1,0 +1,8 @@
+use Rattle.std.proofs.Common.{◌≡◌, ◌≤◌}
+use Rattle.module_labels.specs.Labels.{count, of_uuid}
+use Rattle.label_table.specs.Plain.{module_in}
+use Rattle.label_table.specs.Wholes.{any_label}
+use Rattle.label_table.proofs.plain.ModuleLabels.count.Given as goal
+
+abbrev pub invariant-loop-slot : goal.invariant-loop-slot
+invariant-loop-slot l = (l.count ≡ count any_label (of_uuid l.uuid (module_in l.self)).at l.slot-index) × (l.count ≤ l.slot-index)

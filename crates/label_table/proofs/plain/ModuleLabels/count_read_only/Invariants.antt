@@ -1,0 +1,8 @@
+use Rattle.std.proofs.Common.{◌≡◌, ◌≤◌}
+use Rattle.label_codec.specs.Flags.{is_read_only}
+use Rattle.module_labels.specs.Labels.{count, of_uuid}
+use Rattle.label_table.specs.Plain.{module_in}
+use Rattle.label_table.proofs.plain.ModuleLabels.count_read_only.Given as goal
+
+abbrev pub invariant-loop-slot : goal.invariant-loop-slot
+invariant-loop-slot l = (l.count ≡ count is_read_only (of_uuid l.uuid (module_in l.self)).at l.slot-index) × (l.count ≤ l.slot-index)

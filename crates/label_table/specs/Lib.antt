@@ -1,0 +1,11 @@
+pub mod Belonging
+pub mod Wholes
+pub mod Spaces
+pub mod Fates
+pub mod Tables
+pub mod Namespaces
+pub mod Statuses
+pub mod Division
+pub mod Settling
+pub mod Flips
+pub mod Plain
