@@ -5,3 +5,4 @@ pub mod Places
 pub mod Live
 pub mod Permutations
 pub mod Changes
+pub mod Flips
