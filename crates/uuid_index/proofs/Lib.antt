@@ -6,3 +6,4 @@ pub mod Live
 pub mod Permutations
 pub mod Changes
 pub mod Flips
+pub mod Collecting
