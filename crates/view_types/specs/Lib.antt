@@ -1,2 +1,3 @@
 pub mod Guids
 pub mod Intervals
+pub mod Keys

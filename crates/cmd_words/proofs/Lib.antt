@@ -1,0 +1,3 @@
+pub mod FirstPiece
+pub mod Behind
+pub mod Ascii

@@ -1,0 +1,64 @@
+-- The commands, with their keys, and the values that they take.
+use Rattle.std.specs.Prelude.{ℕ, ◌^◌, List, [], ◌∷◌, Option, Some, None, Result, Ok, Err, codes, if◌then◌else◌, ok_or}
+use Rattle.std.specs.Option.{option_and_then}
+use Rattle.std.specs.Str.{bytes_eq}
+use Rattle.view_types.specs.declared.key.Key.{Key}
+use Rattle.view_types.specs.declared.key.Key.TheVariants.{Dimm, Region, Spa, Dpa, Length}
+use Rattle.view_types.specs.declared.word_fault.WordFault.{WordFault}
+use Rattle.view_types.specs.declared.word_fault.WordFault.TheVariants.{Value}
+use Rattle.cmd_words.specs.declared.commands.Command.{Command}
+use Rattle.cmd_words.specs.declared.commands.Command.TheVariants as command
+use Rattle.cmd_words.specs.declared.commands.Verb.{Verb}
+use Rattle.cmd_words.specs.declared.commands.Verb.TheVariants.{InitLabels, ToModule, ToSpa, ToRuns}
+use Rattle.cmd_words.specs.Keys.{given}
+use Rattle.cmd_words.specs.Numbers.{below, number, size}
+
+-- the first piece of a command
+abbrev pub verb_of : List ℕ → Option Verb
+verb_of piece =
+    if bytes_eq piece (codes "init-labels") then Some InitLabels
+    else if bytes_eq piece (codes "to-module") then Some ToModule
+    else if bytes_eq piece (codes "to-spa") then Some ToSpa
+    else if bytes_eq piece (codes "to-runs") then Some ToRuns
+    else None
+
+-- its keys, in the order in which they are tested; all of them are asked for
+abbrev pub keys_of : Verb → List Key
+keys_of InitLabels = Dimm ∷ []
+keys_of ToModule = Region ∷ Spa ∷ []
+keys_of ToSpa = Region ∷ Dimm ∷ Dpa ∷ []
+keys_of ToRuns = Region ∷ Spa ∷ Length ∷ []
+
+-- what the first of these pieces which gives a value to a key gives to it, as a number below a bound
+abbrev pub number_for : Key → ℕ → List (List ℕ) → Result ℕ WordFault
+number_for key bound pieces = ok_or (below bound (option_and_then number (given key pieces))) (Value key)
+
+-- the same as a size
+abbrev pub size_for : Key → List (List ℕ) → Result ℕ WordFault
+size_for key pieces = ok_or (below (2 ^ 64) (option_and_then size (given key pieces))) (Value key)
+
+-- what comes next, unless there is a fault
+abbrev pub and_then : Result ℕ WordFault → (ℕ → Result Command WordFault) → Result Command WordFault
+and_then (Ok value) next = next value
+and_then (Err fault) next = Err fault
+
+abbrev pub region_then : List (List ℕ) → (ℕ → Result Command WordFault) → Result Command WordFault
+region_then pieces next = and_then (number_for Region (2 ^ 16) pieces) next
+
+abbrev pub dimm_then : List (List ℕ) → (ℕ → Result Command WordFault) → Result Command WordFault
+dimm_then pieces next = and_then (number_for Dimm (2 ^ 32) pieces) next
+
+abbrev pub address_then : Key → List (List ℕ) → (ℕ → Result Command WordFault) → Result Command WordFault
+address_then key pieces next = and_then (number_for key (2 ^ 64) pieces) next
+
+abbrev pub size_then : Key → List (List ℕ) → (ℕ → Result Command WordFault) → Result Command WordFault
+size_then key pieces next = and_then (size_for key pieces) next
+
+-- the command with the values of its keys, or the first that is not of its kind
+abbrev pub command_of : Verb → List (List ℕ) → Result Command WordFault
+command_of InitLabels pieces = dimm_then pieces (λ dimm. Ok (command.InitLabels dimm))
+command_of ToModule pieces = region_then pieces (λ region. address_then Spa pieces (λ spa. Ok (command.ToModule region spa)))
+command_of ToSpa pieces =
+    region_then pieces (λ region. dimm_then pieces (λ dimm. address_then Dpa pieces (λ dpa. Ok (command.ToSpa region dimm dpa))))
+command_of ToRuns pieces =
+    region_then pieces (λ region. address_then Spa pieces (λ spa. size_then Length pieces (λ length. Ok (command.ToRuns region spa length))))

@@ -1,0 +1,14 @@
+//! The lines of commands, and how they are read.
+#![tactic(auto)]
+
+mod commands;
+mod keys;
+mod lines;
+mod numbers;
+mod pieces;
+
+pub use commands::Command;
+pub use lines::read_line;
+
+#[cfg(test)]
+mod tests;

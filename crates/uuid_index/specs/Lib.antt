@@ -1,0 +1,4 @@
+pub mod Entries
+pub mod Contents
+pub mod Found
+pub mod Labels
