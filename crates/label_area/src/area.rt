@@ -18,14 +18,14 @@ const HEADER: usize = 72;
 /// A module's label storage area that is Ready, as it was loaded.
 #[derive(Drop)]
 pub struct Area {
-    dimm: u32,
-    geometry: Geometry,
-    place: Place,
-    seq: u32,
+    pub(crate) dimm: u32,
+    pub(crate) geometry: Geometry,
+    pub(crate) place: Place,
+    pub(crate) seq: u32,
     /// The bitmap of the current index block.
-    free: Vec<u8>,
+    pub(crate) free: Vec<u8>,
     /// The live label of each slot.
-    labels: Vec<Option<Label>>,
+    pub(crate) labels: Vec<Option<Label>>,
 }
 
 impl Model for Area {
