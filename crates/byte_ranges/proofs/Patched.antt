@@ -42,3 +42,9 @@ module _ (bytes put : List ℕ) (at : ℕ) (fits : at + length put ≤ length by
   range-patched_in =
       let front : length (take at bytes) ≡ at = omega (arith, length-take at bytes) in
       rw (append_assoc, drop_at (take at bytes) (put ++ drop (at + length put) bytes) at front) (take_at put (drop (at + length put) bytes) (length put) refl)
+
+-- of two fields put at one place, the second stands
+pub patched-patched : (bytes first second : List ℕ) (at : ℕ) → length first ≡ length second → at + length second ≤ length bytes
+    → patched (patched bytes at first) at second ≡ patched bytes at second
+unfolding patched
+patched-patched bytes first second at same fits = grind (arith, common_steps)

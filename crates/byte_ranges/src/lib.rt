@@ -1,3 +1,11 @@
-//! The words in which contracts speak of ranges of bytes: a range, bytes with other bytes over a range, and the
-//! little-endian number in a field. They have no code: `byteorder` reads and writes the numbers.
+//! Bytes by their offsets: ranges of them, and the little-endian numbers in fields.
 #![tactic(auto)]
+
+mod reading;
+mod writing;
+
+pub use reading::{array_at, u16_at, u32_at, u64_at};
+pub use writing::{push_u16, push_u32, push_u64, put, put_u16, put_u32, put_u64};
+
+#[cfg(test)]
+mod tests;

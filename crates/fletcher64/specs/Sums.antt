@@ -5,7 +5,8 @@
 --     high = n w(0) + (n-1) w(1) + .. + w(n - 1)      modulo 2^32
 --
 -- The checksum is high * 2^32 + low.
-use Rattle.std.specs.Prelude.{ℕ, zero, suc, ◌+◌, ◌-◌, ◌*◌, ◌/◌, ◌%◌, ◌^◌, List, length, replicate}
+use Rattle.std.specs.Prelude.{ℕ, zero, suc, ◌+◌, ◌-◌, ◌*◌, ◌/◌, ◌%◌, ◌^◌, ◌==◌, Bool, List, length, replicate}
+use Rattle.byteorder.specs.Endian.{little_bytes}
 use Rattle.byte_ranges.specs.Ranges.{number_at, patched}
 
 -- word i of some bytes
@@ -28,3 +29,11 @@ checksum_of bytes = checksum_of_words (word bytes) (length bytes / 4)
 -- the checksum with the eight bytes at an offset as zero
 abbrev pub checksum_but : List ℕ → ℕ → ℕ
 checksum_but bytes hole = checksum_of (patched bytes hole (replicate 8 0))
+
+-- the checksum stands at an offset
+unfoldable pub has_checksum : List ℕ → ℕ → Bool
+has_checksum bytes hole = number_at 8 bytes hole == checksum_but bytes hole
+
+-- the bytes with their checksum at an offset
+unfoldable pub with_checksum : List ℕ → ℕ → List ℕ
+with_checksum bytes hole = patched bytes hole (little_bytes 8 (checksum_but bytes hole))

@@ -2,13 +2,13 @@
 //! section 13.19).
 #![tactic(auto)]
 
-ghost use Rattle.std.specs.Prelude.{◌≡◌, ◌+◌, ◌*◌, ◌%◌, ◌<◌, ◌≤◌, length, replicate};
+ghost use Rattle.std.specs.Prelude.{◌≡◌, ◌+◌, ◌*◌, ◌%◌, ◌<◌, ◌≤◌, length, replicate, IsTrue};
 ghost use Rattle.byte_ranges.specs.Ranges.{patched};
-ghost use Rattle.fletcher64.specs.Sums.{word, checksum_of, checksum_but};
+ghost use Rattle.fletcher64.specs.Sums.{word, checksum_of, checksum_but, has_checksum, with_checksum};
 
 mod sums;
 
-use byteorder::{ByteOrder, LittleEndian};
+use byte_ranges::{put_u64, u32_at, u64_at};
 use sums::Sums;
 
 /// How many bytes a word has.
@@ -41,11 +41,34 @@ pub fn fletcher64_but(bytes: &[u8], hole: usize) -> u64
     sums.checksum()
 }
 
+/// Whether the checksum of some bytes stands at `hole`, under the conditions of `fletcher64_but`.
+#[tactic(auto, unfolding(crate::specs::Sums::has_checksum))]
+pub fn has_checksum(bytes: &[u8], hole: usize) -> bool
+    requires words { length bytes.now % 4 ≡ 0 }
+    requires at_word { hole % 4 ≡ 0 }
+    requires within { hole + 8 ≤ length bytes.now }
+    ensures { result ≡ has_checksum bytes.now hole }
+{
+    u64_at(bytes, hole) == fletcher64_but(bytes, hole)
+}
+
+/// Writes the checksum of some bytes at `hole`, under the conditions of `fletcher64_but`.
+pub fn put_checksum(bytes: &mut [u8], hole: usize)
+    requires words { length bytes.old % 4 ≡ 0 }
+    requires at_word { hole % 4 ≡ 0 }
+    requires within { hole + 8 ≤ length bytes.old }
+    ensures text { bytes.new ≡ with_checksum bytes.old hole }
+    ensures right { IsTrue (has_checksum bytes.new hole) }
+{
+    let checksum = fletcher64_but(bytes, hole);
+    put_u64(bytes, hole, checksum);
+}
+
 fn word_at(bytes: &[u8], i: usize) -> u32
     requires { 4 * i + 4 ≤ length bytes.now }
     ensures { result ≡ word bytes.now i }
 {
-    LittleEndian::read_u32(&bytes[WORD * i..])
+    u32_at(bytes, WORD * i)
 }
 
 fn word_but(bytes: &[u8], hole: usize, i: usize) -> u32

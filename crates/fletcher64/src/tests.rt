@@ -14,5 +14,9 @@ fn checksums(rt: HostRuntime) -> Result<(), Fail> {
     assert_eq!(rt; fletcher64_but(&carried, 0), 0);
     let four = [1, 0, 0, 0, 9, 9, 9, 9, 9, 9, 9, 9, 2, 0, 0, 0];
     assert_eq!(rt; fletcher64_but(&four, 4), 0x0000_0006_0000_0003);
+    let mut checked = four;
+    put_checksum(&mut checked, 4);
+    assert_eq!(rt; [checked[4], checked[8], checked[12]], [3, 6, 2]);
+    assert!(rt; has_checksum(&checked, 4) && !has_checksum(&four, 4));
     Ok(())
 }

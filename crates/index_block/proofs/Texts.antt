@@ -8,16 +8,15 @@ use Rattle.std.proofs.lemmas.List.{drop-replicate, length-take, length-take-le, 
 use Rattle.std.proofs.lemmas.Grind.{common_steps}
 use Rattle.byteorder.specs.Endian.{little_bytes}
 use Rattle.byte_ranges.specs.Ranges.{patched}
-use Rattle.fletcher64.specs.Sums.{checksum_of, checksum_but}
 use Rattle.index_block.specs.declared.geometry.Geometry.{Geometry}
 use Rattle.index_block.specs.declared.geometry.Place.{Place}
 use Rattle.index_block.specs.Blocks.{signature}
-use Rattle.index_block.specs.Written.{fields_text, map_text, block_with, block_text}
+use Rattle.index_block.specs.Written.{fields_text, map_text, unchecked_text}
 
 -- the fields, put into zeros one by one
 pub fields_put : (label seq mine block other labels slots minor : ℕ)
-    → patched (patched (patched (patched (patched (patched (patched (patched (patched (patched (replicate 72 0)
-    0 signature) 19 (label ∷ [])) 20 (little_bytes 4 seq)) 24 (little_bytes 8 mine)) 32 (little_bytes 8 block))
+    → patched (patched (patched (patched (patched (patched (patched (patched (slice_set (patched (replicate 72 0)
+    0 signature) 19 label) 20 (little_bytes 4 seq)) 24 (little_bytes 8 mine)) 32 (little_bytes 8 block))
     40 (little_bytes 8 other)) 48 (little_bytes 8 labels)) 56 (little_bytes 4 slots)) 60 (little_bytes 2 1))
     62 (little_bytes 2 minor)
     ≡ signature ++ replicate 3 0 ++ label ∷ [] ++ little_bytes 4 seq ++ little_bytes 8 mine ++ little_bytes 8 block
@@ -67,26 +66,12 @@ parts_put into fields bits rest count all =
     let gone : drop rest (drop 72 into) ≡ [] = drop_all rest (drop 72 into) (omega (arith, length-drop 72 into)) in
     rw (fields_first into fields count, take_at fields (drop 72 into) 72 count, drop_at fields (drop 72 into) 72 count, gone, append-nil) refl
 
--- the block with a checksum put into it
-pub sum_put : (sum other : ℕ) (place : Place) (seq : ℕ) (g : Geometry) (free : List ℕ)
-    → patched (block_with sum place seq g free) 64 (little_bytes 8 other) ≡ block_with other place seq g free
-unfolding patched
-sum_put sum other place seq g free = refl
-
 module _ (place : Place) (seq : ℕ) (g : Geometry) (free : List ℕ) where
   -- the fields and the bits, put into a whole block
-  pub parts_put-block : (into first bits : List ℕ) → length into ≡ g.block → 72 ≤ g.block → length first ≡ length into → first ≡ patched into 0 (fields_text place seq g 0)
+  pub parts_put-block : (into first bits : List ℕ) → length into ≡ g.block → 72 ≤ g.block → length first ≡ length into → first ≡ patched into 0 (fields_text place seq g)
       → bits ≡ map_text (length (take (length first - 72) (drop 72 first))) g.slots free
-      → take 72 first ++ (bits ++ drop (length first - 72) (drop 72 first)) ≡ block_with 0 place seq g free
+      → take 72 first ++ (bits ++ drop (length first - 72) (drop 72 first)) ≡ unchecked_text place seq g free
   parts_put-block into first bits long room same is bits_are =
       let size : length (take (length first - 72) (drop 72 first)) ≡ g.block - 72 = omega (arith, length-take (length first - 72) (drop 72 first), length-drop 72 first) in
-      let rest : length (patched into 0 (fields_text place seq g 0)) - 72 ≡ length into - 72 = omega (arith, ap length is) in
-      rw (bits_are, size, is) (parts_put into (fields_text place seq g 0) (map_text (g.block - 72) g.slots free) (length (patched into 0 (fields_text place seq g 0)) - 72) refl rest)
-
-  -- and then the checksum
-  pub sum_put-block : (before after : List ℕ) → before ≡ block_with 0 place seq g free → after ≡ patched before 64 (little_bytes 8 (checksum_but before 64)) → after ≡ block_text place seq g free
-  unfolding block_text
-  sum_put-block before after was is =
-      is ∙ ap (λ (bytes : List ℕ). patched bytes 64 (little_bytes 8 (checksum_but bytes 64))) was
-      ∙ sum_put 0 (checksum_but (block_with 0 place seq g free) 64) place seq g free
-      ∙ ap (λ (bytes : List ℕ). block_with (checksum_of bytes) place seq g free) (sum_put 0 0 place seq g free)
+      let rest : length (patched into 0 (fields_text place seq g)) - 72 ≡ length into - 72 = omega (arith, ap length is) in
+      rw (bits_are, size, is) (parts_put into (fields_text place seq g) (map_text (g.block - 72) g.slots free) (length (patched into 0 (fields_text place seq g)) - 72) refl rest)

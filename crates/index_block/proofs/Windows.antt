@@ -1,17 +1,15 @@
 -- A block is signed, and usable, by its own bytes alone: those behind them in the window don't matter.
 use Rattle.std.proofs.Common.{◌≡◌, ℕ, ◌+◌, ◌%◌, ◌≤◌, min, Bool, true, false, ◌&&◌, nat_le, List, length, take, refl, sym, ap, ◌∙◌, subst, arith}
-use Rattle.std.specs.Prelude.{not, ◌==◌, nat_eq}
-use Rattle.std.specs.List.{starts_with}
+use Rattle.std.specs.Prelude.{not, ◌==◌}
 use Rattle.std.proofs.lemmas.Bool.{and_right, and_parts, eqb-true}
 use Rattle.std.proofs.lemmas.Bool.Decides.{nat_tests}
 use Rattle.std.proofs.lemmas.List.{take-take, length-take, get_or-take}
 use Rattle.byte_ranges.specs.Ranges.{number_at}
 use Rattle.byte_ranges.proofs.Numbers.{number_at-take}
-use Rattle.fletcher64.specs.Sums.{checksum_but}
 use Rattle.index_block.specs.declared.geometry.Geometry.{Geometry}
 use Rattle.index_block.specs.declared.geometry.Place.{Place}
 use Rattle.index_block.specs.Geometry.{place_offset, other_place, slot_offset}
-use Rattle.index_block.specs.Blocks.{signature, my_size, seq_of, has_size, has_checksum, is_signed, label_size_of, minor_of, has_offsets, has_labels, has_fields, is_usable}
+use Rattle.index_block.specs.Blocks.{block_in, my_size, seq_of, has_size, is_signed, label_size_of, minor_of, has_offsets, has_labels, has_fields, is_usable}
 
 -- the tests with other numbers that are equal
 nat_le-min : (size n whole : ℕ) → size ≤ n → nat_le size (min n whole) ≡ nat_le size whole
@@ -20,9 +18,6 @@ nat_le-min size n whole within = grind (arith, nat_tests)
 sizes_same : (size size' n whole whole' : ℕ) → size' ≡ size → whole' ≡ min n whole → size ≤ n
     → ((size' % 256 == 0) && nat_le 256 size' && nat_le size' whole') ≡ ((size % 256 == 0) && nat_le 256 size && nat_le size whole)
 sizes_same size size' n whole whole' same cut within = rw (same, cut, nat_le-min size n whole within) refl
-
-checksums_same : (sum sum' : ℕ) (bytes bytes' : List ℕ) → sum' ≡ sum → bytes' ≡ bytes → (sum' == checksum_but bytes' 64) ≡ (sum == checksum_but bytes 64)
-checksums_same sum sum' bytes bytes' same cut = rw (same, cut) refl
 
 four_same : (a b c d a' b' c' d' w x y z : ℕ) → a' ≡ a → b' ≡ b → c' ≡ c → d' ≡ d
     → ((a' == w) && (b' == x) && (c' == y) && (d' == z)) ≡ ((a == w) && (b == x) && (c == y) && (d == z))
@@ -47,23 +42,18 @@ module _ (window : List ℕ) (n : ℕ) (room : 72 ≤ n) where
   field-take : (bytes at : ℕ) → at + bytes ≤ 72 → number_at bytes (take n window) at ≡ number_at bytes window at
   field-take bytes at within = number_at-take bytes at n window (omega arith)
 
-  signature-take : starts_with nat_eq (take n window) signature ≡ starts_with nat_eq window signature
-  signature-take = rw (take-take 16 n window (omega arith)) refl
-
   has_size-take : my_size window ≤ n → has_size (take n window) ≡ has_size window
   has_size-take within =
       sizes_same (my_size window) (my_size (take n window)) n (length window) (length (take n window)) (field-take 8 32 (omega arith)) (length-take n window) within
 
-  has_checksum-take : my_size window ≤ n → has_checksum (take n window) ≡ has_checksum window
-  has_checksum-take within =
+  block_in-take : my_size window ≤ n → block_in (take n window) ≡ block_in window
+  block_in-take within =
       let size = field-take 8 32 (omega arith) in
-      let body : take (my_size (take n window)) (take n window) ≡ take (my_size window) window =
-      subst (λ (m : ℕ). take m (take n window) ≡ take (my_size window) window) (sym size) (take-take (my_size window) n window within) in
-      checksums_same (number_at 8 window 64) (number_at 8 (take n window) 64) (take (my_size window) window) (take (my_size (take n window)) (take n window)) (field-take 8 64 (omega arith)) body
+      subst (λ (m : ℕ). take m (take n window) ≡ take (my_size window) window) (sym size) (take-take (my_size window) n window within)
 
   pub is_signed-take : my_size window ≤ n → is_signed (take n window) ≡ is_signed window
   unfolding is_signed
-  is_signed-take within = rw (signature-take, has_size-take within, has_checksum-take within) refl
+  is_signed-take within = rw (has_size-take within, block_in-take within) refl
 
   has_offsets-take : (place : Place) (g : Geometry) → has_offsets place g (take n window) ≡ has_offsets place g window
   has_offsets-take place g =

@@ -8,6 +8,8 @@ use Rattle.std.proofs.Math.Seq.{get_or-append_seam}
 use Rattle.std.proofs.lemmas.Bool.{cases_eq}
 use Rattle.std.proofs.lemmas.List.{length-take-le, get_or-take, get_or-append_right}
 use Rattle.std.proofs.lemmas.Nat.Bits.{bit_at-zero, bit_at_above, bit_at_cat_low}
+use Rattle.byte_ranges.specs.Ranges.{patched}
+use Rattle.fletcher64.specs.Sums.{with_checksum}
 use Rattle.index_block.specs.declared.geometry.Geometry.{Geometry}
 use Rattle.index_block.specs.declared.geometry.Place.{Place}
 use Rattle.index_block.specs.Bitmap.{is_free_in}
@@ -67,9 +69,9 @@ module _ (size slots : ℕ) (free : List ℕ) (enough : slots ≤ 8 * length fre
 -- the same of a block
 module _ (place : Place) (seq : ℕ) (g : Geometry) (free : List ℕ) (enough : g.slots ≤ 8 * length free) (n : ℕ) where
   pub is_free_in-block : n < g.slots → is_free_in (free_map (block_text place seq g free)) n ≡ is_free_in free n
-  unfolding block_text
+  unfolding block_text with_checksum patched
   is_free_in-block below = is_free_in-map_text (g.block - 72) g.slots free enough n below
 
   pub is_used_in-block : g.slots ≤ n → is_free_in (free_map (block_text place seq g free)) n ≡ false
-  unfolding block_text
+  unfolding block_text with_checksum patched
   is_used_in-block above = is_used_in-map_text (g.block - 72) g.slots free enough n above

@@ -1,5 +1,5 @@
 -- What makes an index block signed, and usable (UEFI 2.7, section 13.19). A window is the bytes from the block's place
--- to the end of the area, at most 4,096. All numbers are little-endian.
+-- to the end of the area, at most `window_bytes`. All numbers are little-endian.
 --
 --     offset  bytes  field
 --          0     16  Sig        "NAMESPACE_INDEX" and a zero byte
@@ -15,16 +15,16 @@
 --         62      2  Minor
 --         64      8  Checksum   of the MySize bytes, with this field as zero
 --         72         Free       a bit for each slot, 1 where it is free; then bytes that are not looked at
-use Rattle.std.specs.Prelude.{ℕ, ◌%◌, ◌==◌, ◌&&◌, Bool, List, [], ◌∷◌, ◌++◌, length, drop, codes, if◌then◌else◌, nat_eq, nat_le, not, slice_index}
+use Rattle.std.specs.Prelude.{ℕ, ◌%◌, ◌==◌, ◌&&◌, Bool, List, [], ◌∷◌, ◌++◌, length, drop, take, codes, if◌then◌else◌, nat_eq, nat_le, not, slice_index}
 use Rattle.std.specs.List.{starts_with}
 use Rattle.byte_ranges.specs.Ranges.{range, number_at}
-use Rattle.fletcher64.specs.Sums.{checksum_but}
+use Rattle.fletcher64.specs.Sums.{has_checksum}
 use Rattle.index_block.specs.declared.geometry.Geometry.{Geometry}
 use Rattle.index_block.specs.declared.geometry.Place.{Place}
 use Rattle.index_block.specs.declared.blocks.BlockKind.{BlockKind}
 use Rattle.index_block.specs.declared.blocks.BlockKind.TheVariants.{Unsigned, Foreign, Usable}
 use Rattle.index_block.specs.Current.{IsSeq}
-use Rattle.index_block.specs.Geometry.{place_offset, other_place, slot_offset}
+use Rattle.index_block.specs.Geometry.{bitmap_at, bitmap_len, old_label_bytes, place_offset, other_place, size_unit, slot_offset}
 
 abbrev pub signature : List ℕ
 signature = codes "NAMESPACE_INDEX" ++ 0 ∷ []
@@ -36,17 +36,25 @@ my_size window = number_at 8 window 32
 abbrev pub seq_of : List ℕ → ℕ
 seq_of window = number_at 4 window 20 % 4
 
--- the block's size is one that a block can have, and the window holds it
+-- the size that a block tells is one that a block can have, and the window holds it
 abbrev pub has_size : List ℕ → Bool
-has_size window = (my_size window % 256 == 0) && nat_le 256 (my_size window) && nat_le (my_size window) (length window)
+has_size window = (my_size window % size_unit == 0) && nat_le size_unit (my_size window) && nat_le (my_size window) (length window)
 
--- the checksum is that of the block's bytes
-abbrev pub has_checksum : List ℕ → Bool
-has_checksum window = number_at 8 window 64 == checksum_but (range window 0 (my_size window)) 64
+-- the block's own bytes
+abbrev pub block_in : List ℕ → List ℕ
+block_in window = range window 0 (my_size window)
 
--- a sound block stands at the front of the window, written for this place or for another
+-- the offset of the checksum
+abbrev pub block_checksum_at : ℕ
+block_checksum_at = 64
+
+-- a block has the signature, and the checksum of all its bytes
+abbrev pub is_sound : List ℕ → Bool
+is_sound block = starts_with nat_eq block signature && has_checksum block block_checksum_at
+
+-- a sound block stands at the front of the window, written for this place or for another: its own bytes alone decide
 unfoldable pub is_signed : List ℕ → Bool
-is_signed window = starts_with nat_eq window signature && has_size window && has_checksum window
+is_signed window = has_size window && is_sound (block_in window)
 
 -- its own offset and size, and the offsets of the other block and of slot 0, are those of the place
 abbrev pub has_offsets : Place → Geometry → List ℕ → Bool
@@ -57,11 +65,11 @@ has_offsets place g window = (number_at 8 window 24 == place_offset g place)
 
 -- LabelSize for labels of this many bytes
 abbrev pub label_size_of : ℕ → ℕ
-label_size_of label = if label == 128 then 0 else 1
+label_size_of label = if label == old_label_bytes then 0 else 1
 
 -- the minor version for labels of this many bytes
 abbrev pub minor_of : ℕ → ℕ
-minor_of label = if label == 128 then 1 else 2
+minor_of label = if label == old_label_bytes then 1 else 2
 
 -- the size and the number of its labels are those of the geometry, and the version is the one for labels of that size
 abbrev pub has_labels : Geometry → List ℕ → Bool
@@ -90,6 +98,10 @@ IsNumbered (Usable seq) = IsSeq seq
 IsNumbered Foreign = Unit {0}
 IsNumbered Unsigned = Unit {0}
 
--- the bitmap behind the fields
+-- the bytes behind the fields
 abbrev pub free_map : List ℕ → List ℕ
-free_map window = drop 72 window
+free_map window = drop bitmap_at window
+
+-- the bitmap of the slots
+abbrev pub bitmap_of : Geometry → List ℕ → List ℕ
+bitmap_of g window = take (bitmap_len g.slots) (free_map window)

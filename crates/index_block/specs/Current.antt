@@ -13,8 +13,8 @@ is_followed_by seq next = ((seq == 1) && (next == 2)) || ((seq == 2) && (next ==
 
 -- the current place, by the sequence numbers of the usable blocks: that whose number follows the other's, and the
 -- second at equal numbers
-abbrev pub current_of : Option ℕ → Option ℕ → Option Place
-current_of None None = None
-current_of (Some first) None = Some First
-current_of None (Some second) = Some Second
-current_of (Some first) (Some second) = if is_followed_by second first then Some First else Some Second
+abbrev pub current_place : Option ℕ → Option ℕ → Option Place
+current_place None None = None
+current_place (Some first) None = Some First
+current_place None (Some second) = Some Second
+current_place (Some first) (Some second) = if is_followed_by second first then Some First else Some Second

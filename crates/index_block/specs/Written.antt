@@ -2,15 +2,15 @@
 -- for each slot, and zeros.
 use Rattle.std.specs.Prelude.{ℕ, ◌+◌, ◌-◌, ◌/◌, ◌%◌, ◌^◌, List, [], ◌∷◌, ◌++◌, replicate, take, slice_index}
 use Rattle.byteorder.specs.Endian.{little_bytes}
-use Rattle.fletcher64.specs.Sums.{checksum_of}
+use Rattle.fletcher64.specs.Sums.{with_checksum}
 use Rattle.index_block.specs.declared.geometry.Geometry.{Geometry}
 use Rattle.index_block.specs.declared.geometry.Place.{Place}
-use Rattle.index_block.specs.Geometry.{place_offset, other_place, slot_offset}
-use Rattle.index_block.specs.Blocks.{signature, label_size_of, minor_of}
+use Rattle.index_block.specs.Geometry.{bitmap_at, place_offset, other_place, slot_offset}
+use Rattle.index_block.specs.Blocks.{block_checksum_at, label_size_of, minor_of, signature}
 
--- the fields, with this checksum
-abbrev pub fields_text : Place → ℕ → Geometry → ℕ → List ℕ
-fields_text place seq g checksum = signature
+-- the fields, with a zero for the checksum
+abbrev pub fields_text : Place → ℕ → Geometry → List ℕ
+fields_text place seq g = signature
     ++ replicate 3 0
     ++ label_size_of g.label ∷ []
     ++ little_bytes 4 seq
@@ -21,7 +21,7 @@ fields_text place seq g checksum = signature
     ++ little_bytes 4 g.slots
     ++ little_bytes 2 1
     ++ little_bytes 2 (minor_of g.label)
-    ++ little_bytes 8 checksum
+    ++ little_bytes 8 0
 
 -- the free bits of this many slots in this many bytes, more than the bits fill: whole bytes, the low bits of the next
 -- byte, and zeros
@@ -30,10 +30,10 @@ map_text size slots free = take (slots / 8) free
     ++ (slice_index free (slots / 8) % 2 ^ (slots % 8)) ∷ []
     ++ replicate (size - (slots / 8 + 1)) 0
 
--- the block with this checksum
-abbrev pub block_with : ℕ → Place → ℕ → Geometry → List ℕ → List ℕ
-block_with checksum place seq g free = fields_text place seq g checksum ++ map_text (g.block - 72) g.slots free
+-- the block with a zero for the checksum
+abbrev pub unchecked_text : Place → ℕ → Geometry → List ℕ → List ℕ
+unchecked_text place seq g free = fields_text place seq g ++ map_text (g.block - bitmap_at) g.slots free
 
--- the block with the checksum that it has with a zero in that field
+-- the block
 unfoldable pub block_text : Place → ℕ → Geometry → List ℕ → List ℕ
-block_text place seq g free = block_with (checksum_of (block_with 0 place seq g free)) place seq g free
+block_text place seq g free = with_checksum (unchecked_text place seq g free) block_checksum_at

@@ -1,14 +1,13 @@
 //! Index blocks, and which of two is the current one.
 
-ghost use Rattle.std.specs.Prelude.{◌≡◌, ◌+◌, ◌≤◌, ◌<◌, length, IsTrue, IfSome};
-ghost use Rattle.byte_ranges.specs.Ranges.{number_at};
-ghost use Rattle.index_block.specs.Geometry.{IsGeometry};
-ghost use Rattle.index_block.specs.Blocks.{kind_of, IsNumbered, is_signed, has_size, has_checksum, has_fields, has_offsets, has_labels, label_size_of, minor_of};
-ghost use Rattle.index_block.specs.Current.{current_of, is_followed_by, IsSeq};
+ghost use Rattle.std.specs.Prelude.{◌≡◌, ◌%◌, ◌≤◌, length, IsTrue, IfSome};
+ghost use Rattle.index_block.specs.Geometry.{IsGeometry, size_unit, window_bytes};
+ghost use Rattle.index_block.specs.Blocks.{kind_of, IsNumbered, is_signed, has_size, is_sound, has_fields, has_offsets, has_labels, label_size_of, minor_of};
+ghost use Rattle.index_block.specs.Current.{current_place, is_followed_by, IsSeq};
 
-use crate::geometry::{ALIGNMENT, Geometry, Place};
-use byteorder::{ByteOrder, LittleEndian};
-use fletcher64::fletcher64_but;
+use crate::geometry::{Geometry, OLD_LABEL_BYTES, Place, SIZE_UNIT};
+use byte_ranges::{u16_at, u32_at, u64_at};
+use fletcher64::has_checksum;
 
 /// What stands at the place of an index block. A signed block has its signature, a size that fits and its checksum; a
 /// usable one is also the area's own, and a foreign one is not.
@@ -24,39 +23,38 @@ pub enum BlockKind {
 pub(crate) const SIGNATURE: &[u8; 16] = b"NAMESPACE_INDEX\0";
 
 // The offsets of the fields, in bytes.
-pub(crate) const LABEL_SIZE: usize = 19;
+pub(crate) const LABEL_SIZE_AT: usize = 19;
 
-pub(crate) const SEQ: usize = 20;
+pub(crate) const SEQ_AT: usize = 20;
 
-pub(crate) const MY_OFFSET: usize = 24;
+pub(crate) const MY_OFFSET_AT: usize = 24;
 
-pub(crate) const MY_SIZE: usize = 32;
+pub(crate) const MY_SIZE_AT: usize = 32;
 
-pub(crate) const OTHER_OFFSET: usize = 40;
+pub(crate) const OTHER_OFFSET_AT: usize = 40;
 
-pub(crate) const LABEL_OFFSET: usize = 48;
+pub(crate) const LABEL_OFFSET_AT: usize = 48;
 
-pub(crate) const SLOTS: usize = 56;
+pub(crate) const SLOTS_AT: usize = 56;
 
-pub(crate) const MAJOR: usize = 60;
+pub(crate) const MAJOR_AT: usize = 60;
 
-pub(crate) const MINOR: usize = 62;
+pub(crate) const MINOR_AT: usize = 62;
 
-pub(crate) const CHECKSUM: usize = 64;
+pub(crate) const BLOCK_CHECKSUM_AT: usize = 64;
 
-pub(crate) const FREE: usize = 72;
-
-/// What stands at a place. The window is the bytes from the place to the end of the area, at most 4,096 of them.
+/// What stands at a place. The window is the bytes from the place to the end of the area, at most `WINDOW_BYTES` of
+/// them.
 #[tactic(auto, unfolding(crate::specs::Blocks::is_usable))]
 pub fn read_block(window: &[u8], place: Place, g: &Geometry) -> BlockKind
     requires geometry { IsGeometry g.now }
     requires long { g.now.block ≤ length window.now }
-    requires short { length window.now ≤ 4096 }
+    requires short { length window.now ≤ window_bytes }
     ensures kind { result ≡ kind_of place g.now window.now }
     ensures numbered { IsNumbered result }
 {
-    let seq = LittleEndian::read_u32(&window[SEQ..]) % 4;
-    if !signed(window) {
+    let seq = u32_at(window, SEQ_AT) % 4;
+    if !is_signed(window) {
         BlockKind::Unsigned
     } else if seq != 0 && has_fields(window, place, g) {
         BlockKind::Usable { seq }
@@ -67,35 +65,35 @@ pub fn read_block(window: &[u8], place: Place, g: &Geometry) -> BlockKind
 
 /// Whether a signed block stands at the front of the window.
 #[tactic(auto, unfolding(crate::specs::Blocks::is_signed))]
-fn signed(window: &[u8]) -> bool
-    requires { 256 ≤ length window.now }
+fn is_signed(window: &[u8]) -> bool
+    requires { size_unit ≤ length window.now }
     ensures { result ≡ is_signed window.now }
 {
-    window.starts_with(SIGNATURE) && has_size(window) && has_checksum(window)
+    has_size(window) && is_sound(&window[..u64_at(window, MY_SIZE_AT) as usize])
 }
 
-/// Whether the block's size is one that a block can have, and the window holds it.
+/// Whether the size that a block tells is one that a block can have, and the window holds it.
 fn has_size(window: &[u8]) -> bool
-    requires { 256 ≤ length window.now }
+    requires { size_unit ≤ length window.now }
     ensures { result ≡ has_size window.now }
 {
-    let size = u64_at(window, MY_SIZE);
-    size % ALIGNMENT == 0 && size >= ALIGNMENT && size <= window.len() as u64
+    let size = u64_at(window, MY_SIZE_AT);
+    size % SIZE_UNIT == 0 && size >= SIZE_UNIT && size <= window.len() as u64
 }
 
-/// Whether the checksum is that of the block's bytes.
-fn has_checksum(window: &[u8]) -> bool
-    requires { IsTrue (has_size window.now) }
-    ensures { result ≡ has_checksum window.now }
+/// Whether a block has the signature, and the checksum of all its bytes.
+fn is_sound(block: &[u8]) -> bool
+    requires aligned { length block.now % size_unit ≡ 0 }
+    requires least { size_unit ≤ length block.now }
+    ensures { result ≡ is_sound block.now }
 {
-    let size = u64_at(window, MY_SIZE) as usize;
-    u64_at(window, CHECKSUM) == fletcher64_but(&window[..size], CHECKSUM)
+    block.starts_with(SIGNATURE) && has_checksum(block, BLOCK_CHECKSUM_AT)
 }
 
 /// Whether the fields are those of the place.
 #[tactic(auto, unfolding(crate::specs::Blocks::has_fields))]
 fn has_fields(window: &[u8], place: Place, g: &Geometry) -> bool
-    requires { 256 ≤ length window.now }
+    requires { size_unit ≤ length window.now }
     ensures { result ≡ has_fields place g.now window.now }
 {
     has_offsets(window, place, g) && has_labels(window, g)
@@ -103,49 +101,41 @@ fn has_fields(window: &[u8], place: Place, g: &Geometry) -> bool
 
 /// Whether its own offset and size, and the offsets of the other block and of slot 0, are those of the place.
 fn has_offsets(window: &[u8], place: Place, g: &Geometry) -> bool
-    requires { 256 ≤ length window.now }
+    requires { size_unit ≤ length window.now }
     ensures { result ≡ has_offsets place g.now window.now }
 {
     let mine = u64::from(g.place_offset(place));
     let other = u64::from(g.place_offset(place.other()));
     let block = u64::from(g.block);
-    u64_at(window, MY_OFFSET) == mine
-        && u64_at(window, MY_SIZE) == block
-        && u64_at(window, OTHER_OFFSET) == other
-        && u64_at(window, LABEL_OFFSET) == 2 * block
+    u64_at(window, MY_OFFSET_AT) == mine
+        && u64_at(window, MY_SIZE_AT) == block
+        && u64_at(window, OTHER_OFFSET_AT) == other
+        && u64_at(window, LABEL_OFFSET_AT) == 2 * block
 }
 
 /// Whether the size and the number of its labels are those of the geometry, and the version fits that size.
 fn has_labels(window: &[u8], g: &Geometry) -> bool
-    requires { 256 ≤ length window.now }
+    requires { size_unit ≤ length window.now }
     ensures { result ≡ has_labels g.now window.now }
 {
-    window[LABEL_SIZE] == label_size(g.label)
-        && LittleEndian::read_u32(&window[SLOTS..]) == g.slots
-        && LittleEndian::read_u16(&window[MAJOR..]) == 1
-        && LittleEndian::read_u16(&window[MINOR..]) == minor(g.label)
+    window[LABEL_SIZE_AT] == label_size(g.label)
+        && u32_at(window, SLOTS_AT) == g.slots
+        && u16_at(window, MAJOR_AT) == 1
+        && u16_at(window, MINOR_AT) == minor(g.label)
 }
 
 /// The field LabelSize for labels of `label` bytes.
 pub(crate) fn label_size(label: u32) -> u8
     ensures { result ≡ label_size_of label }
 {
-    if label == 128 { 0 } else { 1 }
+    if label == OLD_LABEL_BYTES { 0 } else { 1 }
 }
 
 /// The minor version for labels of `label` bytes.
 pub(crate) fn minor(label: u32) -> u16
     ensures { result ≡ minor_of label }
 {
-    if label == 128 { 1 } else { 2 }
-}
-
-/// The number in the eight bytes at an offset.
-fn u64_at(window: &[u8], at: usize) -> u64
-    requires { at + 8 ≤ length window.now }
-    ensures { result ≡ number_at 8 window.now at }
-{
-    LittleEndian::read_u64(&window[at..])
+    if label == OLD_LABEL_BYTES { 1 } else { 2 }
 }
 
 /// The current one of two places, by the sequence numbers of the usable blocks there. `None` exactly where none is
@@ -153,7 +143,7 @@ fn u64_at(window: &[u8], at: usize) -> u64
 pub fn current(first: Option<u32>, second: Option<u32>) -> Option<Place>
     requires first { IfSome first IsSeq }
     requires second { IfSome second IsSeq }
-    ensures { result ≡ current_of first second }
+    ensures { result ≡ current_place first second }
 {
     match (first, second) {
         (None, None) => None,

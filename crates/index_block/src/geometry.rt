@@ -1,6 +1,6 @@
 //! Where index blocks and slots stand.
 
-ghost use Rattle.std.specs.Prelude.{◌≡◌, IfSome};
+ghost use Rattle.std.specs.Prelude.{◌≡◌, ◌≤◌, length, IfSome};
 
 /// The layout of an area: the sizes of a label and of an index block in bytes, and the number of slots.
 #[derive(Clone, Copy, Debug, PartialEq, Eq)]
@@ -32,19 +32,29 @@ impl Place {
 }
 
 /// The least size of an area, in bytes.
-const LEAST_SIZE: u64 = 1024;
+pub const LEAST_AREA: u64 = 1024;
 
 /// The greatest size of an area, in bytes.
-const GREATEST_SIZE: u64 = 1_048_576;
+pub const GREATEST_AREA: u64 = 1_048_576;
 
 /// What the sizes of areas and of index blocks are multiples of, in bytes.
-pub(crate) const ALIGNMENT: u64 = 256;
+pub const SIZE_UNIT: u64 = 256;
 
-/// The bytes of an index block before its bitmap.
-const HEADER: u64 = 72;
+/// The bytes of a label of version 1.2.
+pub const LABEL_BYTES: u32 = 256;
+
+/// The bytes of a label of version 1.1.
+pub const OLD_LABEL_BYTES: u32 = 128;
+
+/// The offset of the bitmap in an index block, in bytes.
+pub(crate) const BITMAP_AT: usize = 72;
+
+/// How many bytes are looked at from the place of an index block on, at most.
+pub const WINDOW_BYTES: usize = 4096;
 
 impl Geometry {
     ghost use Rattle.index_block.specs.Geometry.{geometry_of, FitsIn, IsGeometry, place_offset};
+    ghost use Rattle.index_block.specs.Blocks.{bitmap_of};
 
     /// The geometry of an area of `size` bytes with labels of `label` bytes. Areas have 1,024 to 1,048,576 bytes, a
     /// multiple of 256, and labels have 128 or 256. `None` exactly where one of the two sizes is another.
@@ -54,14 +64,14 @@ impl Geometry {
         ensures geometry { IfSome result IsGeometry }
         ensures fits { IfSome result (FitsIn size) }
     {
-        if size < LEAST_SIZE || size > GREATEST_SIZE || size % ALIGNMENT != 0 {
+        if size < LEAST_AREA || size > GREATEST_AREA || size % SIZE_UNIT != 0 {
             return None;
         }
-        if label != 128 && label != 256 {
+        if label != OLD_LABEL_BYTES && label != LABEL_BYTES {
             return None;
         }
         let bits = size / u64::from(label);
-        let block = (HEADER + bits.div_ceil(8)).next_multiple_of(ALIGNMENT);
+        let block = (BITMAP_AT as u64 + bits.div_ceil(8)).next_multiple_of(SIZE_UNIT);
         let slots = (size - 2 * block) / u64::from(label);
         Some(Geometry {
             label,
@@ -78,5 +88,15 @@ impl Geometry {
             Place::First => 0,
             Place::Second => self.block,
         }
+    }
+
+    /// The bitmap of the index block at the front of a window: a bit for each slot, in whole bytes.
+    pub fn bitmap<'a>(&self, window: &'a [u8]) -> &'a [u8]
+        requires geometry { IsGeometry self.now }
+        requires long { self.now.block ≤ length window.now }
+        ensures { result.now ≡ bitmap_of self.now window.now }
+    {
+        let len = self.slots.div_ceil(8) as usize;
+        &window[BITMAP_AT..BITMAP_AT + len]
     }
 }

@@ -9,7 +9,10 @@ mod write;
 
 pub use bitmap::{count_free, first_free, is_free, set_free, set_used};
 pub use blocks::{BlockKind, current, next_seq, read_block};
-pub use geometry::{Geometry, Place};
+pub use geometry::{
+    GREATEST_AREA, Geometry, LABEL_BYTES, LEAST_AREA, OLD_LABEL_BYTES, Place, SIZE_UNIT,
+    WINDOW_BYTES,
+};
 pub use write::write_block;
 
 #[cfg(test)]

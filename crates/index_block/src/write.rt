@@ -1,7 +1,6 @@
 //! Index blocks as they are written.
 
-ghost use Rattle.std.specs.Prelude.{◌≡◌, ℕ, ◌+◌, ◌*◌, ◌≤◌, ◌<◌, false, length};
-ghost use Rattle.byte_ranges.specs.Ranges.{patched};
+ghost use Rattle.std.specs.Prelude.{◌≡◌, ℕ, ◌*◌, ◌≤◌, ◌<◌, false, length};
 ghost use Rattle.index_block.specs.Geometry.{IsGeometry};
 ghost use Rattle.index_block.specs.Bitmap.{is_free_in};
 ghost use Rattle.index_block.specs.Blocks.{kind_of, free_map};
@@ -9,11 +8,12 @@ ghost use Rattle.index_block.specs.Current.{IsSeq};
 ghost use Rattle.index_block.specs.Written.{fields_text, map_text, block_text};
 
 use crate::blocks::{
-    BlockKind, CHECKSUM, FREE, LABEL_OFFSET, LABEL_SIZE, MAJOR, MINOR, MY_OFFSET, MY_SIZE,
-    OTHER_OFFSET, SEQ, SIGNATURE, SLOTS, label_size, minor,
+    BLOCK_CHECKSUM_AT, BlockKind, LABEL_OFFSET_AT, LABEL_SIZE_AT, MAJOR_AT, MINOR_AT, MY_OFFSET_AT,
+    MY_SIZE_AT, OTHER_OFFSET_AT, SEQ_AT, SIGNATURE, SLOTS_AT, label_size, minor,
 };
-use crate::geometry::{Geometry, Place};
-use fletcher64::fletcher64_but;
+use crate::geometry::{BITMAP_AT, Geometry, Place};
+use byte_ranges::{put, put_u16, put_u32, put_u64};
+use fletcher64::put_checksum;
 
 /// Writes the index block of a place over `g.block` bytes, with a sequence number of 1 to 3 and the free bits of the
 /// slots. `free` has a bit for each slot. The bits past the last slot and the padding become zero.
@@ -28,29 +28,28 @@ pub fn write_block(into: &mut [u8], place: Place, seq: u32, g: &Geometry, free: 
     ensures past { (n : ℕ) → g.now.slots ≤ n → is_free_in (free_map into.new) n ≡ false }
 {
     put(into, 0, &fields(place, seq, g));
-    write_map(&mut into[FREE..], g.slots, free);
-    let checksum = fletcher64_but(into, CHECKSUM);
-    put(into, CHECKSUM, &checksum.to_le_bytes());
+    write_map(&mut into[BITMAP_AT..], g.slots, free);
+    put_checksum(into, BLOCK_CHECKSUM_AT);
 }
 
 /// The fields of a block, with a zero for the checksum.
-fn fields(place: Place, seq: u32, g: &Geometry) -> [u8; FREE]
-    ensures { result ≡ fields_text place seq g.now 0 }
+fn fields(place: Place, seq: u32, g: &Geometry) -> [u8; BITMAP_AT]
+    ensures { result ≡ fields_text place seq g.now }
 {
     let block = u64::from(g.block);
     let mine = u64::from(g.place_offset(place));
     let other = u64::from(g.place_offset(place.other()));
-    let mut fields = [0; FREE];
+    let mut fields = [0; BITMAP_AT];
     put(&mut fields, 0, SIGNATURE);
-    put(&mut fields, LABEL_SIZE, &[label_size(g.label)]);
-    put(&mut fields, SEQ, &seq.to_le_bytes());
-    put(&mut fields, MY_OFFSET, &mine.to_le_bytes());
-    put(&mut fields, MY_SIZE, &block.to_le_bytes());
-    put(&mut fields, OTHER_OFFSET, &other.to_le_bytes());
-    put(&mut fields, LABEL_OFFSET, &(2 * block).to_le_bytes());
-    put(&mut fields, SLOTS, &g.slots.to_le_bytes());
-    put(&mut fields, MAJOR, &1u16.to_le_bytes());
-    put(&mut fields, MINOR, &minor(g.label).to_le_bytes());
+    fields[LABEL_SIZE_AT] = label_size(g.label);
+    put_u32(&mut fields, SEQ_AT, seq);
+    put_u64(&mut fields, MY_OFFSET_AT, mine);
+    put_u64(&mut fields, MY_SIZE_AT, block);
+    put_u64(&mut fields, OTHER_OFFSET_AT, other);
+    put_u64(&mut fields, LABEL_OFFSET_AT, 2 * block);
+    put_u32(&mut fields, SLOTS_AT, g.slots);
+    put_u16(&mut fields, MAJOR_AT, 1);
+    put_u16(&mut fields, MINOR_AT, minor(g.label));
     fields
 }
 
@@ -67,13 +66,4 @@ fn write_map(map: &mut [u8], slots: u32, free: &[u8])
     if rest != 0 {
         map[whole] = free[whole] % (1 << rest);
     }
-}
-
-/// Writes the bytes of a field at its offset.
-#[tactic(auto, unfolding(byte_ranges::specs::Ranges::patched))]
-fn put(into: &mut [u8], at: usize, field: &[u8])
-    requires { at + length field.now ≤ length into.old }
-    ensures { into.new ≡ patched into.old at field.now }
-{
-    into[at..at + field.len()].copy_from_slice(field);
 }

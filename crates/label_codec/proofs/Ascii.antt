@@ -7,7 +7,7 @@ use Rattle.std.proofs.lemmas.Str.{IsAscii-append}
 use Rattle.std.proofs.lemmas.Str.Ascii.{IsAscii-nil, IsAscii-cons}
 use Rattle.std.proofs.lemmas.Bool.{and_parts, ltb-true}
 use Rattle.std.proofs.lemmas.Bool.Decides.{nat_tests}
-use Rattle.label_codec.specs.Names.{escaped_byte, hex_digit, is_plain, name_of, printed_byte, printed_name}
+use Rattle.label_codec.specs.Names.{escaped_byte, hex_digit, is_plain, name_before_zero, printed_byte, printed_name}
 
 -- of a literal text, by computing
 IsAscii-tested : (bs : List ℕ) → list_all (λ b. nat_lt b 128) bs ≡ true → IsAscii bs
@@ -40,7 +40,7 @@ pub IsAscii-printed_name : (bytes : List ℕ) → IsAscii (printed_name bytes)
 unfolding printed_name
 IsAscii-printed_name bytes = cases _ _
   where
-    cases : (empty dash : Bool) → IsAscii (if empty then codes "-" else if dash then codes "%2D" else flat_map printed_byte (name_of bytes))
+    cases : (empty dash : Bool) → IsAscii (if empty then codes "-" else if dash then codes "%2D" else flat_map printed_byte (name_before_zero bytes))
     cases true dash = IsAscii-tested (codes "-") refl
     cases false true = IsAscii-tested (codes "%2D") refl
-    cases false false = IsAscii-bytes (name_of bytes)
+    cases false false = IsAscii-bytes (name_before_zero bytes)

@@ -1,2 +1,3 @@
 pub mod Ascii
 pub mod Slots
+pub mod Written

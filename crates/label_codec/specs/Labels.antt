@@ -11,33 +11,88 @@
 --        104      8  Dpa, in bytes                   248      8  Checksum, with this field as zero
 --
 -- The reserved bytes count in the checksum alone.
-use Rattle.std.specs.Prelude.{ℕ, ◌==◌, ◌&&◌, Bool, List, Option, Some, None, if◌then◌else◌, slice_index}
-use Rattle.byte_ranges.specs.Ranges.{range, number_at}
-use Rattle.fletcher64.specs.Sums.{checksum_but}
+use Rattle.std.specs.Prelude.{◌≡◌, ◌<◌, ◌^◌, ℕ, ◌==◌, ◌&&◌, Bool, List, [], ◌∷◌, ◌++◌, Option, Some, None, if◌then◌else◌, length, replicate, slice_index}
+use Rattle.byteorder.specs.Endian.{little_bytes}
+use Rattle.byte_ranges.specs.Ranges.{range, number_at, with_fields}
+use Rattle.fletcher64.specs.Sums.{has_checksum, with_checksum}
 use Rattle.label_codec.specs.declared.label.Label.{Label}
+use Rattle.label_codec.specs.Offsets.{abstraction_at, alignment_at, cookie_at, dpa_at, flags_at, label_checksum_at, lba_size_at, name_at, nlabel_at, position_at, raw_size_at, slot_at, type_guid_at, uuid_at}
+
+-- the bytes of a label
+abbrev pub label_len : ℕ
+label_len = 256
 
 -- the fields
 unfoldable pub fields_of : List ℕ → Label
 fields_of bytes = record {
-  uuid = range bytes 0 16;
-  name = range bytes 16 64;
-  flags = number_at 4 bytes 80;
-  nlabel = number_at 2 bytes 84;
-  position = number_at 2 bytes 86;
-  cookie = number_at 8 bytes 88;
-  lba_size = number_at 8 bytes 96;
-  dpa = number_at 8 bytes 104;
-  raw_size = number_at 8 bytes 112;
-  slot = number_at 4 bytes 120;
-  alignment = slice_index bytes 124;
-  type_guid = range bytes 128 16;
-  abstraction = range bytes 144 16;
+  uuid = range bytes uuid_at 16;
+  name = range bytes name_at 64;
+  flags = number_at 4 bytes flags_at;
+  nlabel = number_at 2 bytes nlabel_at;
+  position = number_at 2 bytes position_at;
+  cookie = number_at 8 bytes cookie_at;
+  lba_size = number_at 8 bytes lba_size_at;
+  dpa = number_at 8 bytes dpa_at;
+  raw_size = number_at 8 bytes raw_size_at;
+  slot = number_at 4 bytes slot_at;
+  alignment = slice_index bytes alignment_at;
+  type_guid = range bytes type_guid_at 16;
+  abstraction = range bytes abstraction_at 16;
 }
 
 -- the checksum is right, and the label is that of this slot
 unfoldable pub is_label : List ℕ → ℕ → Bool
-is_label bytes slot = (number_at 8 bytes 248 == checksum_but bytes 248) && (number_at 4 bytes 120 == slot)
+is_label bytes slot = has_checksum bytes label_checksum_at && (number_at 4 bytes slot_at == slot)
 
 -- the label of a slot, where its bytes are one
 abbrev pub label_of : List ℕ → ℕ → Option Label
 label_of bytes slot = if is_label bytes slot then Some (fields_of bytes) else None
+
+-- What the fields of a value of the program hold anyway: those of the namespace, and those of the module's part of it.
+pub record FitsNamespaceFields (l : Label) : Type 0 where
+  pub uuid : length l.uuid ≡ 16
+  pub name : length l.name ≡ 64
+  pub flags : l.flags < 256 ^ 4
+  pub nlabel : l.nlabel < 256 ^ 2
+  pub position : l.position < 256 ^ 2
+  pub cookie : l.cookie < 256 ^ 8
+  pub lba_size : l.lba_size < 256 ^ 8
+
+pub record FitsPartFields (l : Label) : Type 0 where
+  pub dpa : l.dpa < 256 ^ 8
+  pub raw_size : l.raw_size < 256 ^ 8
+  pub slot : l.slot < 256 ^ 4
+  pub type_guid : length l.type_guid ≡ 16
+  pub abstraction : length l.abstraction ≡ 16
+
+-- the bytes of these fields, each with its offset
+abbrev pub namespace_fields : Label → List (ℕ × List ℕ)
+namespace_fields l = (uuid_at, l.uuid)
+    ∷ (name_at, l.name)
+    ∷ (flags_at, little_bytes 4 l.flags)
+    ∷ (nlabel_at, little_bytes 2 l.nlabel)
+    ∷ (position_at, little_bytes 2 l.position)
+    ∷ (cookie_at, little_bytes 8 l.cookie)
+    ∷ (lba_size_at, little_bytes 8 l.lba_size)
+    ∷ []
+
+abbrev pub part_fields : Label → List (ℕ × List ℕ)
+part_fields l = (dpa_at, little_bytes 8 l.dpa)
+    ∷ (raw_size_at, little_bytes 8 l.raw_size)
+    ∷ (slot_at, little_bytes 4 l.slot)
+    ∷ (alignment_at, l.alignment ∷ [])
+    ∷ (type_guid_at, l.type_guid)
+    ∷ (abstraction_at, l.abstraction)
+    ∷ []
+
+abbrev pub fields_text : Label → List (ℕ × List ℕ)
+fields_text l = namespace_fields l ++ part_fields l
+
+-- a label as it is written: the fields over zeros, and the checksum
+unfoldable pub label_text : Label → List ℕ
+label_text l = with_checksum (with_fields (replicate label_len 0) (fields_text l)) label_checksum_at
+
+-- the reserved bytes are zero
+pub record HasZerosReserved (bytes : List ℕ) : Type 0 where
+  pub behind_alignment : range bytes 125 3 ≡ replicate 3 0
+  pub behind_guids : range bytes 160 88 ≡ replicate 88 0

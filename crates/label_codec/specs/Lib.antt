@@ -1,3 +1,4 @@
+pub mod Offsets
 pub mod Labels
 pub mod Names
 pub mod Flags

@@ -3,8 +3,8 @@ use Rattle.std.specs.Prelude.{ℕ, ◌/◌, ◌%◌, ◌==◌, ◌&&◌, ◌||�
 use Rattle.std.specs.List.{before_first, flat_map}
 
 -- a name ends at its first zero byte
-abbrev pub name_of : List ℕ → List ℕ
-name_of name = before_first (λ byte. byte == 0) name
+abbrev pub name_before_zero : List ℕ → List ℕ
+name_before_zero name = before_first (λ byte. byte == 0) name
 
 -- the byte stands as itself: visible ASCII, but `%` and `"`
 abbrev pub is_plain : ℕ → Bool
@@ -27,7 +27,7 @@ is_dash name = (length name == 1) && (slice_index name 0 == 0x2D)
 -- the printed name of the 64 bytes of a label's name. An empty name is printed as `-`, so the name `-` is not.
 unfoldable pub printed_name : List ℕ → List ℕ
 printed_name bytes =
-    let name = name_of bytes in
+    let name = name_before_zero bytes in
     if length name == 0 then codes "-"
     else if is_dash name then codes "%2D"
     else flat_map printed_byte name

@@ -1,11 +1,14 @@
-//! A label, and how it is read.
+//! A label, and how it is read and written.
 
-ghost use Rattle.std.specs.Prelude.{◌≡◌, ◌+◌, ◌≤◌, length};
-ghost use Rattle.byte_ranges.specs.Ranges.{range, number_at};
-ghost use Rattle.label_codec.specs.Labels.{fields_of, is_label, label_of};
+ghost use Rattle.std.specs.Prelude.{◌≡◌, length, IfSome, Some};
+ghost use Rattle.byte_ranges.specs.Ranges.{with_fields};
+ghost use Rattle.label_codec.specs.Labels.{fields_of, FitsNamespaceFields, FitsPartFields, HasZerosReserved, is_label, label_len, label_of, label_text, namespace_fields, part_fields};
 
-use byteorder::{ByteOrder, LittleEndian};
-use fletcher64::fletcher64_but;
+use byte_ranges::{array_at, put, put_u16, put_u32, put_u64, u16_at, u32_at, u64_at};
+use fletcher64::{has_checksum, put_checksum};
+
+/// The bytes of a label, and of its slot.
+pub const LABEL_LEN: usize = 256;
 
 /// A label of version 1.2, as it stands in a slot of 256 bytes.
 #[derive(Clone, Copy, Debug, PartialEq, Eq)]
@@ -38,39 +41,41 @@ pub struct Label {
 }
 
 // The offsets of the fields, in bytes.
-const UUID: usize = 0;
+const UUID_AT: usize = 0;
 
-const NAME: usize = 16;
+const NAME_AT: usize = 16;
 
-const FLAGS: usize = 80;
+const FLAGS_AT: usize = 80;
 
-const NLABEL: usize = 84;
+const NLABEL_AT: usize = 84;
 
-const POSITION: usize = 86;
+const POSITION_AT: usize = 86;
 
-const COOKIE: usize = 88;
+const COOKIE_AT: usize = 88;
 
-const LBA_SIZE: usize = 96;
+const LBA_SIZE_AT: usize = 96;
 
-const DPA: usize = 104;
+const DPA_AT: usize = 104;
 
-const RAW_SIZE: usize = 112;
+const RAW_SIZE_AT: usize = 112;
 
-const SLOT: usize = 120;
+const SLOT_AT: usize = 120;
 
-const ALIGNMENT: usize = 124;
+const ALIGNMENT_AT: usize = 124;
 
-const TYPE_GUID: usize = 128;
+const TYPE_GUID_AT: usize = 128;
 
-const ABSTRACTION: usize = 144;
+const ABSTRACTION_AT: usize = 144;
 
-const CHECKSUM: usize = 248;
+const LABEL_CHECKSUM_AT: usize = 248;
 
 /// The label that stands in a slot. `None` exactly where the checksum is wrong, or the bytes are the label of another
 /// slot.
 pub fn read_label(bytes: &[u8], slot: u32) -> Option<Label>
-    requires { length bytes.now ≡ 256 }
-    ensures { result ≡ label_of bytes.now slot }
+    requires { length bytes.now ≡ label_len }
+    ensures exact { result ≡ label_of bytes.now slot }
+    // What is read and written again has the same fields.
+    ensures again { IfSome result (λ label. label_of (label_text label) slot ≡ Some label) }
 {
     if !stands_in(bytes, slot) {
         return None;
@@ -79,62 +84,76 @@ pub fn read_label(bytes: &[u8], slot: u32) -> Option<Label>
 }
 
 /// Whether the bytes are a label with a right checksum and this slot number.
+#[tactic(auto, unfolding(crate::specs::Labels::is_label))]
 fn stands_in(bytes: &[u8], slot: u32) -> bool
-    requires { length bytes.now ≡ 256 }
+    requires { length bytes.now ≡ label_len }
     ensures { result ≡ is_label bytes.now slot }
 {
-    u64_at(bytes, CHECKSUM) == fletcher64_but(bytes, CHECKSUM) && u32_at(bytes, SLOT) == slot
+    has_checksum(bytes, LABEL_CHECKSUM_AT) && u32_at(bytes, SLOT_AT) == slot
 }
 
 #[tactic(auto, unfolding(crate::specs::Labels::fields_of))]
 fn fields(bytes: &[u8]) -> Label
-    requires { length bytes.now ≡ 256 }
-    ensures { result ≡ fields_of bytes.now }
+    requires { length bytes.now ≡ label_len }
+    ensures fields { result ≡ fields_of bytes.now }
+    ensures namespace { FitsNamespaceFields result }
+    ensures part { FitsPartFields result }
 {
     Label {
-        uuid: array_at(bytes, UUID),
-        name: array_at(bytes, NAME),
-        flags: u32_at(bytes, FLAGS),
-        nlabel: u16_at(bytes, NLABEL),
-        position: u16_at(bytes, POSITION),
-        cookie: u64_at(bytes, COOKIE),
-        lba_size: u64_at(bytes, LBA_SIZE),
-        dpa: u64_at(bytes, DPA),
-        raw_size: u64_at(bytes, RAW_SIZE),
-        slot: u32_at(bytes, SLOT),
-        alignment: bytes[ALIGNMENT],
-        type_guid: array_at(bytes, TYPE_GUID),
-        abstraction: array_at(bytes, ABSTRACTION),
+        uuid: array_at(bytes, UUID_AT),
+        name: array_at(bytes, NAME_AT),
+        flags: u32_at(bytes, FLAGS_AT),
+        nlabel: u16_at(bytes, NLABEL_AT),
+        position: u16_at(bytes, POSITION_AT),
+        cookie: u64_at(bytes, COOKIE_AT),
+        lba_size: u64_at(bytes, LBA_SIZE_AT),
+        dpa: u64_at(bytes, DPA_AT),
+        raw_size: u64_at(bytes, RAW_SIZE_AT),
+        slot: u32_at(bytes, SLOT_AT),
+        alignment: bytes[ALIGNMENT_AT],
+        type_guid: array_at(bytes, TYPE_GUID_AT),
+        abstraction: array_at(bytes, ABSTRACTION_AT),
     }
 }
 
-fn u16_at(bytes: &[u8], at: usize) -> u16
-    requires { at + 2 ≤ length bytes.now }
-    ensures { result ≡ number_at 2 bytes.now at }
+/// Writes a label over the bytes of its slot, with zeros in the reserved bytes and the checksum that goes with it.
+pub fn write_label(label: &Label, into: &mut [u8])
+    requires { length into.old ≡ label_len }
+    ensures text { into.new ≡ label_text label.now }
+    ensures read { label_of into.new label.now.slot ≡ Some label.now }
+    ensures reserved { HasZerosReserved into.new }
 {
-    LittleEndian::read_u16(&bytes[at..])
+    into.fill(0);
+    put_namespace_fields(into, label);
+    put_part_fields(into, label);
+    put_checksum(into, LABEL_CHECKSUM_AT);
 }
 
-fn u32_at(bytes: &[u8], at: usize) -> u32
-    requires { at + 4 ≤ length bytes.now }
-    ensures { result ≡ number_at 4 bytes.now at }
+/// Writes the fields of the namespace at their offsets.
+fn put_namespace_fields(into: &mut [u8], label: &Label)
+    requires { length into.old ≡ label_len }
+    ensures fields { into.new ≡ with_fields into.old (namespace_fields label.now) }
+    ensures fits { FitsNamespaceFields label.now }
 {
-    LittleEndian::read_u32(&bytes[at..])
+    put(into, UUID_AT, &label.uuid);
+    put(into, NAME_AT, &label.name);
+    put_u32(into, FLAGS_AT, label.flags);
+    put_u16(into, NLABEL_AT, label.nlabel);
+    put_u16(into, POSITION_AT, label.position);
+    put_u64(into, COOKIE_AT, label.cookie);
+    put_u64(into, LBA_SIZE_AT, label.lba_size);
 }
 
-fn u64_at(bytes: &[u8], at: usize) -> u64
-    requires { at + 8 ≤ length bytes.now }
-    ensures { result ≡ number_at 8 bytes.now at }
+/// Writes the fields of the module's part at their offsets.
+fn put_part_fields(into: &mut [u8], label: &Label)
+    requires { length into.old ≡ label_len }
+    ensures fields { into.new ≡ with_fields into.old (part_fields label.now) }
+    ensures fits { FitsPartFields label.now }
 {
-    LittleEndian::read_u64(&bytes[at..])
-}
-
-/// The N bytes at an offset.
-fn array_at<const N: usize>(bytes: &[u8], at: usize) -> [u8; N]
-    requires { at + N ≤ length bytes.now }
-    ensures { result ≡ range bytes.now at N }
-{
-    let mut array = [0; N];
-    array.copy_from_slice(&bytes[at..at + N]);
-    array
+    put_u64(into, DPA_AT, label.dpa);
+    put_u64(into, RAW_SIZE_AT, label.raw_size);
+    put_u32(into, SLOT_AT, label.slot);
+    put(into, ALIGNMENT_AT, &[label.alignment]);
+    put(into, TYPE_GUID_AT, &label.type_guid);
+    put(into, ABSTRACTION_AT, &label.abstraction);
 }

@@ -6,7 +6,7 @@ mod label;
 mod names;
 
 pub use flags::{LOCAL, READ_ONLY, UPDATING};
-pub use label::{Label, read_label};
+pub use label::{LABEL_LEN, Label, read_label, write_label};
 pub use names::name_text;
 
 #[cfg(test)]

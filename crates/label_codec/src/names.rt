@@ -2,7 +2,7 @@
 
 ghost use Rattle.std.specs.Prelude.{◌≡◌, ◌++◌, IfOk, OnOk};
 ghost use Rattle.std.specs.List.{flat_map};
-ghost use Rattle.label_codec.specs.Names.{name_of, escaped_byte, printed_byte, printed_name};
+ghost use Rattle.label_codec.specs.Names.{name_before_zero, escaped_byte, printed_byte, printed_name};
 
 use std::alloc::{AllocError, Global};
 
@@ -22,7 +22,7 @@ pub fn name_text(alloc: Global, name: &[u8; 64]) -> Result<Vec<u8>, AllocError>
 
 /// The bytes before the first zero byte.
 fn before_zero(name: &[u8; 64]) -> &[u8]
-    ensures { result.now ≡ name_of name.now }
+    ensures { result.now ≡ name_before_zero name.now }
 {
     let end = name
         .iter()

@@ -2,10 +2,10 @@ use Rattle.std.proofs.Common.{◌≡◌, ℕ, ◌==◌, length, true, false, Lis
 use Rattle.std.specs.Prelude.{codes}
 use Rattle.std.specs.List.{flat_map}
 use Rattle.std.proofs.lemmas.Bool.Decides.{nat_tests}
-use Rattle.label_codec.specs.Names.{name_of, is_dash, printed_byte, printed_name}
+use Rattle.label_codec.specs.Names.{name_before_zero, is_dash, printed_byte, printed_name}
 use Rattle.label_codec.proofs.names.name_text.Goals as goal
 
-module _ (bytes name : List ℕ) (is : name ≡ name_of bytes) where
+module _ (bytes name : List ℕ) (is : name ≡ name_before_zero bytes) where
   printed_name-empty : length name ≡ 0 → printed_name bytes ≡ codes "-"
   unfolding printed_name
   printed_name-empty empty = rw (← is, empty)
