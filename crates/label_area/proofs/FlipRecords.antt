@@ -13,7 +13,7 @@ use Rattle.index_block.specs.declared.geometry.Place.{Place}
 use Rattle.index_block.specs.declared.geometry.Place.TheVariants.{First, Second}
 use Rattle.index_block.specs.Bitmap.{is_free_in}
 use Rattle.index_block.specs.Blocks.{is_signed}
-use Rattle.index_block.specs.Current.{IsSeq, current_of, is_followed_by}
+use Rattle.index_block.specs.Current.{IsSeq, current_place, is_followed_by}
 use Rattle.index_block.specs.Geometry.{geometry_of, other_place, place_offset}
 use Rattle.index_block.specs.Written.{block_text}
 use Rattle.index_block.proofs.Sizes.{HasSizes, sizes_of}
@@ -41,7 +41,7 @@ left_before areas said dimm after c same said_is = record {
 
 -- a current block tells the geometry in which it is one
 current_geometry : (g : Geometry) (bytes : List ℕ) (c : Current) → current_in g bytes ≡ Some c → c.geometry ≡ g
-current_geometry g bytes c is = by (current_of (seq_in (kind_at g bytes First)) (seq_in (kind_at g bytes Second))) is
+current_geometry g bytes c is = by (current_place (seq_in (kind_at g bytes First)) (seq_in (kind_at g bytes Second))) is
   where
     some : {a b : Current} → Some a ≡ Some b → a ≡ b
     some e = cc

@@ -202,6 +202,12 @@ put_keeps map slot among free k is kept was = is ∙ by (k == slot)
     by true = refl
     by false = rw (kept, was) refl
 
+-- a slot that isn't free is in use
+pub in_use_by : (area : LoadedArea) (slot : ℕ) → slot < area.geometry.slots → is_free_in area.free slot ≡ false → IsTrue (is_used area slot)
+in_use_by area slot below used =
+    let is : nat_lt slot area.geometry.slots ≡ true = grind (arith, nat_tests) in
+    λ i. is i && not (used i)
+
 -- the slot of a label that is replaced is one of the area's
 pub replaced_below : (a : LoadedArea) → IsSound a → (replaces : Option ℕ) → IfSome replaces (λ slot. IsSome (get a.live slot)) → All (λ slot. slot < a.geometry.slots) (replaced replaces)
 replaced_below a sound None live k d within = absurd (omega arith)

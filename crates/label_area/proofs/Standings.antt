@@ -11,7 +11,7 @@ use Rattle.index_block.specs.declared.geometry.Place.TheVariants.{First, Second}
 use Rattle.index_block.specs.declared.blocks.BlockKind.TheVariants.{Unsigned, Foreign, Usable}
 use Rattle.index_block.specs.Bitmap.{is_free_in}
 use Rattle.index_block.specs.Blocks.{free_map, is_signed, is_usable, kind_of, seq_of}
-use Rattle.index_block.specs.Current.{IsSeq, current_of, is_followed_by}
+use Rattle.index_block.specs.Current.{IsSeq, current_place, is_followed_by}
 use Rattle.index_block.specs.Geometry.{geometry_of, other_place}
 use Rattle.index_block.proofs.Behind.{is_free_in-window}
 use Rattle.index_block.proofs.Windows.{is_usable-take}
@@ -21,7 +21,8 @@ use Rattle.label_area.specs.declared.blocks.Current.{Current}
 use Rattle.label_area.specs.Blocks.{current_in, place_window, seq_in}
 use Rattle.label_area.specs.Flips.{Standing, standing_of, used_by}
 use Rattle.label_area.specs.Modules.{live_by, slots_by}
-use Rattle.label_area.specs.Slots.{bitmap_len, free_bits, label_at}
+use Rattle.index_block.specs.Geometry.{bitmap_len}
+use Rattle.label_area.specs.Slots.{free_bits, label_at}
 use Rattle.label_area.proofs.Shown.{block_is, ready_is}
 
 abbrev pub current_with : Geometry → Place → ℕ → Current
@@ -94,11 +95,11 @@ bits_front g place seq bytes block bits least front k below =
 -- Which block is current, by the sequence numbers of the usable ones.
 module _ (g : Geometry) where
   abbrev pub current_at : (Place → Option ℕ) → Option Current
-  current_at seq_at = option_and_then (λ place. option_map (current_with g place) (seq_at place)) (current_of (seq_at First) (seq_at Second))
+  current_at seq_at = option_and_then (λ place. option_map (current_with g place) (seq_at place)) (current_place (seq_at First) (seq_at Second))
 
   -- the current block has its number
   pub current_seq : (seq_at : Place → Option ℕ) (place : Place) (seq : ℕ) → current_at seq_at ≡ Some (current_with g place seq) → seq_at place ≡ Some seq
-  current_seq seq_at place seq is = pick (current_of (seq_at First) (seq_at Second)) is
+  current_seq seq_at place seq is = pick (current_place (seq_at First) (seq_at Second)) is
     where
       some : {a b : Current} → Some a ≡ Some b → a ≡ b
       some e = cc

@@ -5,21 +5,20 @@ ghost use Rattle.std.specs.List.{All};
 ghost use Rattle.std.specs.Result.{is_err};
 ghost use Rattle.index_block.specs.Bitmap.{IsFirstFree, is_free_in};
 ghost use Rattle.index_block.specs.Current.{IsSeq};
-ghost use Rattle.index_block.specs.Geometry.{IsGeometry, place_offset, slot_offset};
+ghost use Rattle.index_block.specs.Geometry.{IsGeometry, bitmap_len, place_offset, slot_offset};
 ghost use Rattle.index_block.specs.Written.{block_text};
 ghost use Rattle.rig_trait.specs.Areas.{size_in};
 ghost use Rattle.rig_trait.specs.Frames.{FailsAt, IsTold, LeavesOnly, WriteLeaves, WritesBytes, WritesTo};
 ghost use Rattle.rig_trait.specs.TwoWrites.{LeavesTwo, WritesBoth};
-ghost use Rattle.label_codec.specs.Labels.{label_of};
 ghost use Rattle.label_area.specs.Flips.{HasFree, IsSized, LeftByFlip, after_free, after_put, at_slot, first_slot, is_among, replaced, shown_by};
 ghost use Rattle.label_area.specs.Loads.{IsShown};
 ghost use Rattle.label_area.specs.LoadedAreas.{is_used};
-ghost use Rattle.label_area.specs.Slots.{bitmap_len};
 
 use crate::area::Area;
-use crate::blocks::WINDOW;
-use index_block::{Geometry, Place, first_free, next_seq, set_free, set_used, write_block};
-use label_codec::Label;
+use index_block::{
+    Geometry, Place, WINDOW_BYTES, first_free, next_seq, set_free, set_used, write_block,
+};
+use label_codec::{LABEL_LEN, Label, write_label};
 use rig_trait::{Failed, Rig};
 use std::slice::from_ref;
 
@@ -54,17 +53,18 @@ impl Area {
         Ok(())
     }
 
-    /// Puts a label into the least free slot, where `text` is its text there.
-    fn put_text<R: Rig>(
+    /// Puts a label into the least free slot, with the number of that slot, which it answers, and frees the slot of a label
+    /// that it replaces. It writes the slot and then the index block that isn't the current one, with the next sequence
+    /// number, and nothing else. A stop at any moment leaves the area as it stood before, or with the label and without the
+    /// one that it replaces.
+    pub fn put<R: Rig>(
         &mut self,
         rig: &mut R,
         label: &Label,
-        text: &[u8; 256],
         replaces: Option<u32>,
     ) -> Result<u32, Failed>
         requires free { HasFree self.old }
         requires replaces { IfSome replaces (λ slot. IsSome (get self.old.live slot)) }
-        requires text { label_of text.now (first_slot self.old) ≡ Some (at_slot (first_slot self.old) label.now) }
         requires sized { IsTold R.Shown rig.old → IsSized self.old (R.areas rig.old) }
         ensures slot { IfOk result (λ slot. slot ≡ first_slot self.old) }
         ensures first { IsFirstFree self.old.free self.old.geometry.slots (first_slot self.old) }
@@ -81,14 +81,17 @@ impl Area {
     {
         let geometry = self.geometry();
         let slot = self.first_slot();
+        let label = Label { slot, ..*label };
+        let mut text = [0; LABEL_LEN];
+        write_label(&label, &mut text);
         let place = self.place.other();
         let seq = next_seq(self.seq);
         let freed = replaced(&replaces);
         let mut free = freed_bits(&self.free, geometry.slots, freed);
         set_used(&mut free, slot);
-        write_flip(rig, self.dimm, &geometry, slot, text, place, seq, &free)?;
+        write_flip(rig, self.dimm, &geometry, slot, &text, place, seq, &free)?;
         self.keep(place, seq, &free, freed);
-        self.keep_label(slot, Label { slot, ..*label });
+        self.keep_label(slot, label);
         Ok(slot)
     }
 
@@ -186,7 +189,7 @@ fn write_next<R: Rig>(
     ensures cause { FailsAt dimm R.Shown rig.old rig.new (is_err result) }
     ensures reads { R.reads rig.new ≡ R.reads rig.old }
 {
-    let mut block = [0; WINDOW];
+    let mut block = [0; WINDOW_BYTES];
     let block = &mut block[..geometry.block as usize];
     write_block(block, place, seq, geometry, free);
     rig.write(dimm, u64::from(geometry.place_offset(place)), block)
@@ -198,7 +201,7 @@ fn write_flip<R: Rig>(
     dimm: u32,
     geometry: &Geometry,
     slot: u32,
-    text: &[u8; 256],
+    text: &[u8; LABEL_LEN],
     place: Place,
     seq: u32,
     free: &[u8; BITMAP],
@@ -214,7 +217,7 @@ fn write_flip<R: Rig>(
     ensures cause { FailsAt dimm R.Shown rig.old rig.new (is_err result) }
     ensures reads { R.reads rig.new ≡ R.reads rig.old }
 {
-    let mut block = [0; WINDOW];
+    let mut block = [0; WINDOW_BYTES];
     let block = &mut block[..geometry.block as usize];
     write_block(block, place, seq, geometry, free);
     let at = u64::from(2 * geometry.block + slot * geometry.label);

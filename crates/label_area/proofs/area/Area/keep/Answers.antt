@@ -8,7 +8,7 @@ use Rattle.label_codec.specs.declared.label.Label.{Label}
 use Rattle.label_area.specs.Flips.{is_among}
 use Rattle.label_area.specs.Kept.{live_of}
 use Rattle.label_area.specs.LoadedAreas.{LoadedArea}
-use Rattle.label_area.specs.Slots.{bitmap_len}
+use Rattle.index_block.specs.Geometry.{bitmap_len}
 use Rattle.label_area.proofs.LabelsBySlot.{cleared_in_use, get-live_of}
 use Rattle.label_area.proofs.area.Area.keep.Goals as goal
 
