@@ -9,7 +9,7 @@ use Rattle.index_block.specs.declared.geometry.Geometry.{Geometry}
 use Rattle.index_block.specs.declared.geometry.Place.{Place}
 use Rattle.index_block.specs.declared.geometry.Place.TheVariants.{First, Second}
 use Rattle.index_block.specs.Blocks.{has_fields, is_signed, is_usable, kind_of, seq_of}
-use Rattle.index_block.specs.Current.{current_of, is_followed_by}
+use Rattle.index_block.specs.Current.{current_place, is_followed_by}
 use Rattle.module_labels.specs.declared.kind.AreaKind.TheVariants.{Ready, Foreign, Uninit}
 use Rattle.label_area.specs.declared.blocks.BlockKinds.{BlockKinds}
 use Rattle.label_area.specs.declared.blocks.Current.{Current}
@@ -39,7 +39,7 @@ pub kind_of-unsigned : (place : Place) (g : Geometry) (window : List ℕ) → is
 kind_of-unsigned place g window without = unsigned (kind_of place g window) (is_block-kind place g window ∙ without)
 
 -- with a current block the area is Ready
-pub ready : (f : Place → Option Current) (first second old_second : BlockKind) (current : Current) → option_and_then f (current_of (seq_in first) (seq_in second)) ≡ Some current
+pub ready : (f : Place → Option Current) (first second old_second : BlockKind) (current : Current) → option_and_then f (current_place (seq_in first) (seq_in second)) ≡ Some current
     → kind_by_blocks (record { first = first; second = second; old_second = old_second }) ≡ Ready
 ready f (kind.Usable a) second old_second current is = refl
 ready f kind.Unsigned (kind.Usable b) old_second current is = refl

@@ -35,22 +35,22 @@ module _ (bytes put : List ℕ) (g : Geometry) (long : length put ≡ g.block) (
   inside : at + length put ≤ length bytes
   inside = omega arith
 
-  size-patched : length (patched bytes at put) ≡ length bytes
+  pub size-patched : length (patched bytes at put) ≡ length bytes
   size-patched = length-patched bytes put at inside
 
   -- they stand at the front of their window
-  front-put : take g.block (window_at (patched bytes at put) at) ≡ put
+  pub front-put : take g.block (window_at (patched bytes at put) at) ≡ put
   front-put =
       front_of_window (patched bytes at put) at g.block most
       ∙ ap (range (patched bytes at put) at) (sym long)
       ∙ range-patched_in bytes put at inside
 
   -- the windows behind them are as before
-  window-behind : (from : ℕ) → at + g.block ≤ from → window_at (patched bytes at put) from ≡ window_at bytes from
+  pub window-behind : (from : ℕ) → at + g.block ≤ from → window_at (patched bytes at put) from ≡ window_at bytes from
   window-behind from behind = range-patched_after bytes put at inside from 4096 (omega arith)
 
   -- and so is the front of one before them
-  front-before : (from : ℕ) → from + g.block ≤ at → take g.block (window_at (patched bytes at put) from) ≡ take g.block (window_at bytes from)
+  pub front-before : (from : ℕ) → from + g.block ≤ at → take g.block (window_at (patched bytes at put) from) ≡ take g.block (window_at bytes from)
   front-before from before =
       front_of_window (patched bytes at put) from g.block most
       ∙ range-patched_before bytes put at inside from g.block before

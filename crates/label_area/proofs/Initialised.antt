@@ -40,21 +40,21 @@ stored_of None g layout = absurd cc
 stored_of (Some bytes) g layout = record { bytes = bytes; is_area = refl; found = layout }
 
 -- the area that is written
-get-patched : (areas : Areas) (dimm : ℕ) (bytes : List ℕ) → get areas dimm ≡ Some bytes → (at : ℕ) (put : List ℕ) → get (written areas dimm at put) dimm ≡ Some (patched bytes at put)
+pub get-patched : (areas : Areas) (dimm : ℕ) (bytes : List ℕ) → get areas dimm ≡ Some bytes → (at : ℕ) (put : List ℕ) → get (written areas dimm at put) dimm ≡ Some (patched bytes at put)
 get-patched areas dimm bytes stored at put = get-written areas dimm at put ∙ ap (λ o. Some (patched (unwrap_or o []) at put)) stored
 
 -- a torn write
 module _ (areas : Areas) (dimm : ℕ) (bytes : List ℕ) (stored : get areas dimm ≡ Some bytes) (said : List ℕ) (at : ℕ) (put : List ℕ) (c : CrashRecord) (torn : IsTorn areas said dimm at put c) where
   -- the area that it leaves
-  get-torn : get c.areas dimm ≡ Some (patched bytes at torn.garbage)
+  pub get-torn : get c.areas dimm ≡ Some (patched bytes at torn.garbage)
   get-torn = ap (λ a. get a dimm) torn.areas_are ∙ get-patched areas dimm bytes stored at torn.garbage
 
   -- and all others are as before
-  others-torn : OthersKept dimm areas c.areas
+  pub others-torn : OthersKept dimm areas c.areas
   others-torn q other = ap (λ a. get a q) torn.areas_are ∙ get-written_other areas dimm at torn.garbage q other
 
   -- where the record is fair, and the write is one of an index block
-  torn_block : (g : Geometry) → geometry_of (length bytes) 256 ≡ Some g → length put ≡ g.block → (at ≡ 0) ⊎ (at ≡ g.block) → at + g.block ≤ length bytes → IsFair c → IsLeftAt bytes at put torn.garbage
+  pub torn_block : (g : Geometry) → geometry_of (length bytes) 256 ≡ Some g → length put ≡ g.block → (at ≡ 0) ⊎ (at ≡ g.block) → at + g.block ≤ length bytes → IsFair c → IsLeftAt bytes at put torn.garbage
   torn_block g found long place fits is_fair =
       let now : area c.areas dimm ≡ patched bytes at torn.garbage = ap (λ o. unwrap_or o []) get-torn in
       let before : area areas dimm ≡ bytes = ap (λ o. unwrap_or o []) stored in

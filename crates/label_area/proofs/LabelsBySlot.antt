@@ -1,15 +1,15 @@
 -- The labels by slot, as a map.
-use Rattle.std.proofs.Common.{◌≡◌, ◌≢◌, inl, inr, ℕ, zero, suc, ◌+◌, ◌<◌, Bool, true, false, ◌&&◌, cond, List, [], ◌∷◌, length, get_or, map, Option, Some, None, refl, sym, subst, ◌∙◌, arith}
-use Rattle.std.specs.Prelude.{if◌then◌else◌, nat_lt, not, IsSome, IsTrue}
+use Rattle.std.proofs.Common.{◌≡◌, ◌≢◌, inl, inr, ℕ, zero, suc, ◌+◌, ◌<◌, Bool, true, false, ◌&&◌, cond, List, [], ◌∷◌, length, get_or, map, set, eqb, eq-eqb, eqb-true, Option, Some, None, refl, sym, ap, subst, ◌∙◌, arith}
+use Rattle.std.specs.Prelude.{◌==◌, if◌then◌else◌, nat_lt, not, IsSome, IsTrue}
 use Rattle.std.specs.Ordering.{nat_cmp, eq_by_cmp}
 use Rattle.std.specs.Cmp.{nat_cmp_total}
 use Rattle.std.specs.FinMap as finite
 use Rattle.std.specs.FinMap.{get, get-from_entries}
 use Rattle.std.specs.List.{cons_option, range_with_len}
 use Rattle.std.specs.Option.{option_map}
-use Rattle.std.proofs.lemmas.Bool.{cases_lt}
+use Rattle.std.proofs.lemmas.Bool.{and_parts, cases_lt, false≢true}
 use Rattle.std.proofs.lemmas.Bool.Decides.{nat_tests}
-use Rattle.std.proofs.lemmas.List.{get_or_default, get_or_past, same_lists}
+use Rattle.std.proofs.lemmas.List.{get_or-set_other, get_or-set_same, get_or_default, get_or_past, same_lists}
 use Rattle.std.proofs.lemmas.List.FromFn.{get_or-map-range_with_len, length-map-range_with_len}
 use Rattle.index_block.specs.Bitmap.{is_free_in}
 use Rattle.label_codec.specs.declared.label.Label.{Label}
@@ -76,3 +76,31 @@ module _ (current : Current) (area : List ℕ) (slot : ℕ) where
           → IsTrue (is_in_use (free_bits current area) current.geometry.slots slot)
       by true is s = is
       by false is s = absurd cc
+
+-- A slot that keeps its label while others are cleared is in use still.
+pub cleared_in_use : (labels new : List (Option Label)) (gone : ℕ → Bool) (free now : List ℕ) (n : ℕ) → ((k : ℕ) → get_or new k None ≡ (if gone k then None else get_or labels k None))
+    → ((k : ℕ) → IsSome (get_or labels k None) → IsTrue (is_in_use free n k)) → ((k : ℕ) → k < n → gone k ≡ false → is_free_in free k ≡ false → is_free_in now k ≡ false)
+    → (k : ℕ) → IsSome (get_or new k None) → IsTrue (is_in_use now n k)
+cleared_in_use labels new gone free now n cleared used bits k some = by (gone k) refl (subst IsSome (cleared k) some)
+  where
+    below : nat_lt k n ≡ true → k < n
+    below is = grind (arith, nat_tests)
+
+    not_free : (is_free : Bool) → not is_free ≡ true → is_free ≡ false
+    not_free true is = absurd cc
+    not_free false is = refl
+
+    by : (g : Bool) → gone k ≡ g → IsSome (cond g None (get_or labels k None)) → IsTrue (is_in_use now n k)
+    by true e s = absurd cc
+    by false e s =
+        let parts = and_parts (nat_lt k n) (not (is_free_in free k)) (used k s) in
+        let still = bits k (below parts.0) e (not_free (is_free_in free k) parts.1) in
+        λ i. parts.0 i && not (still i)
+
+-- a label set in a slot
+pub get-set : (labels : List (Option Label)) (slot : ℕ) (label : Label) → slot < length labels → (k : ℕ) → get (live_of (set labels slot (Some label))) k ≡ (if k == slot then Some label else get (live_of labels) k)
+get-set labels slot label within k = get-live_of k (set labels slot (Some label)) ∙ by (eqb k slot) refl
+  where
+    by : (same : Bool) → eqb k slot ≡ same → get_or (set labels slot (Some label)) k None ≡ cond same (Some label) (get (live_of labels) k)
+    by true e = ap (λ (j : ℕ). get_or (set labels slot (Some label)) j None) (eqb-true k slot e) ∙ get_or-set_same labels slot (Some label) None within
+    by false e = get_or-set_other labels slot k (Some label) None (λ same. absurd (false≢true (sym e ∙ eq-eqb k slot same))) ∙ sym (get-live_of k labels)

@@ -10,3 +10,9 @@ pub mod Initialised
 pub mod InOrder
 pub mod Initialising
 pub mod FairRecords
+pub mod Standings
+pub mod SlotsWritten
+pub mod FlipRecords
+pub mod Freeing
+pub mod FirstSlot
+pub mod Putting

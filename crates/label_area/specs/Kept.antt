@@ -10,7 +10,8 @@ use Rattle.label_codec.specs.declared.label.Label.{Label}
 use Rattle.label_area.specs.declared.area.Area.TheInside.{Inside}
 use Rattle.label_area.specs.declared.blocks.Current.{Current}
 use Rattle.label_area.specs.LoadedAreas.{LoadedArea}
-use Rattle.label_area.specs.Slots.{bitmap_len, free_bits, is_in_use, live_labels}
+use Rattle.index_block.specs.Geometry.{bitmap_len}
+use Rattle.label_area.specs.Slots.{free_bits, is_in_use, live_labels}
 
 -- the labels from a slot on, with their slots
 abbrev pub entries_from : ℕ → List (Option Label) → List (ℕ × Label)

@@ -8,3 +8,4 @@ pub mod Faults
 pub mod Loads
 pub mod Fair
 pub mod Inits
+pub mod Flips

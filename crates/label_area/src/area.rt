@@ -3,8 +3,8 @@
 ghost use Rattle.std.specs.Prelude.{◌≡◌, ◌<◌, length, IfOk};
 ghost use Rattle.std.specs.Option.{option_copied};
 ghost use Rattle.index_block.specs.Current.{IsSeq};
-ghost use Rattle.index_block.specs.Geometry.{FitsIn, IsGeometry};
-ghost use Rattle.label_area.specs.Slots.{bitmap_len, free_bits, label_at, live_label, live_labels};
+ghost use Rattle.index_block.specs.Geometry.{FitsIn, IsGeometry, bitmap_len};
+ghost use Rattle.label_area.specs.Slots.{free_bits, label_at, live_label, live_labels};
 
 use crate::blocks::{Current, place_window};
 use index_block::{Geometry, Place, count_free, is_free};
@@ -12,20 +12,17 @@ use label_codec::{Label, read_label};
 use std::alloc::{AllocError, Global};
 use std::marker::Model;
 
-/// The bytes of an index block before its bitmap.
-const HEADER: usize = 72;
-
 /// A module's label storage area that is Ready, as it was loaded.
 #[derive(Drop)]
 pub struct Area {
-    dimm: u32,
-    geometry: Geometry,
-    place: Place,
-    seq: u32,
+    pub(crate) dimm: u32,
+    pub(crate) geometry: Geometry,
+    pub(crate) place: Place,
+    pub(crate) seq: u32,
     /// The bitmap of the current index block.
-    free: Vec<u8>,
+    pub(crate) free: Vec<u8>,
     /// The live label of each slot.
-    labels: Vec<Option<Label>>,
+    pub(crate) labels: Vec<Option<Label>>,
 }
 
 impl Model for Area {
@@ -141,13 +138,13 @@ impl Area {
 
 /// The bitmap of the current block of an area.
 fn free_bits(alloc: Global, area: &[u8], current: &Current) -> Result<Vec<u8>, AllocError>
-    requires { FitsIn (length area.now) current.now.geometry }
+    requires geometry { IsGeometry current.now.geometry }
+    requires fits { FitsIn (length area.now) current.now.geometry }
     ensures bits { IfOk result (λ free. free.items ≡ free_bits current.now area.now) }
     ensures len { IfOk result (λ free. length free.items ≡ bitmap_len current.now.geometry.slots) }
 {
-    let map = &place_window(area, current.place, &current.geometry)[HEADER..];
-    let len = current.geometry.slots.div_ceil(8) as usize;
-    Vec::from_slice(alloc, &map[..len])
+    let window = place_window(area, current.place, &current.geometry);
+    Vec::from_slice(alloc, current.geometry.bitmap(window))
 }
 
 /// The live labels of all slots, in their order. `free` is the bitmap of the current block.

@@ -16,9 +16,9 @@ ghost use Rattle.label_area.specs.Layouts.{AreLayouts};
 ghost use Rattle.label_area.specs.Modules.{area_kind};
 
 use crate::area::Area;
-use crate::blocks::{BlockKinds, WINDOW};
+use crate::blocks::BlockKinds;
 use crate::layouts::Layouts;
-use index_block::{BlockKind, Geometry, Place, read_block, write_block};
+use index_block::{BlockKind, Geometry, Place, WINDOW_BYTES, read_block, write_block};
 use module_labels::AreaKind;
 use rig_trait::Rig;
 
@@ -152,8 +152,8 @@ fn read_kind<R: Rig>(
     ensures cause { FailsAt dimm R.Shown rig.old rig.new (is_err result) }
 {
     let at = u64::from(geometry.place_offset(place));
-    let len = (size - at).min(WINDOW as u64) as usize;
-    let mut buffer = [0; WINDOW];
+    let len = (size - at).min(WINDOW_BYTES as u64) as usize;
+    let mut buffer = [0; WINDOW_BYTES];
     let window = &mut buffer[..len];
     rig.read(dimm, at, window)?;
     Ok(read_block(window, place, geometry))
@@ -175,8 +175,8 @@ fn write_blocks<R: Rig>(
     ensures cause { FailsAt dimm R.Shown rig.old rig.new (is_err result) }
 {
     let len = geometry.block as usize;
-    let mut first = [0; WINDOW];
-    let mut second = [0; WINDOW];
+    let mut first = [0; WINDOW_BYTES];
+    let mut second = [0; WINDOW_BYTES];
     let first = &mut first[..len];
     let second = &mut second[..len];
     write_block(first, Place::First, 3, geometry, &ALL_FREE);

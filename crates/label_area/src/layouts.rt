@@ -3,13 +3,7 @@
 ghost use Rattle.std.specs.Prelude.{◌≡◌, IfSome};
 ghost use Rattle.label_area.specs.Layouts.{AreLayouts, layouts_of};
 
-use index_block::Geometry;
-
-/// The size of a label in bytes.
-const LABEL: u32 = 256;
-
-/// The size of a label of version 1.1 in bytes.
-const OLD_LABEL: u32 = 128;
+use index_block::{Geometry, LABEL_BYTES, OLD_LABEL_BYTES};
 
 /// The layouts that an area can have: its own, for labels of 256 bytes, and that for labels of version 1.1, which have
 /// 128.
@@ -25,8 +19,8 @@ impl Layouts {
         ensures exact { result ≡ layouts_of size }
         ensures sound { IfSome result (AreLayouts size) }
     {
-        let own = Geometry::of(size, LABEL)?;
-        let old = Geometry::of(size, OLD_LABEL)?;
+        let own = Geometry::of(size, LABEL_BYTES)?;
+        let old = Geometry::of(size, OLD_LABEL_BYTES)?;
         Some(Layouts { own, old })
     }
 }

@@ -3,6 +3,7 @@
 
 mod area;
 mod blocks;
+mod flip;
 mod init;
 mod layouts;
 mod load;

@@ -1,0 +1,226 @@
+//! How an area is changed: by flips.
+
+ghost use Rattle.std.specs.Prelude.{◌≡◌, ◌+◌, ◌*◌, ◌<◌, ◌≤◌, ◌==◌, ◌||◌, ℕ, None, Some, false, if◌then◌else◌, length, slice_index_or, IfOk, IfSome, IsSome, IsTrue, OnErr, OnOk};
+ghost use Rattle.std.specs.List.{All};
+ghost use Rattle.std.specs.Result.{is_err};
+ghost use Rattle.index_block.specs.Bitmap.{IsFirstFree, is_free_in};
+ghost use Rattle.index_block.specs.Current.{IsSeq};
+ghost use Rattle.index_block.specs.Geometry.{IsGeometry, bitmap_len, place_offset, slot_offset};
+ghost use Rattle.index_block.specs.Written.{block_text};
+ghost use Rattle.rig_trait.specs.Areas.{size_in};
+ghost use Rattle.rig_trait.specs.Frames.{FailsAt, IsTold, LeavesOnly, WriteLeaves, WritesBytes, WritesTo};
+ghost use Rattle.rig_trait.specs.TwoWrites.{LeavesTwo, WritesBoth};
+ghost use Rattle.label_area.specs.Flips.{HasFree, IsSized, LeftByFlip, after_free, after_put, at_slot, first_slot, is_among, replaced, shown_by};
+ghost use Rattle.label_area.specs.Loads.{IsShown};
+ghost use Rattle.label_area.specs.LoadedAreas.{is_used};
+
+use crate::area::Area;
+use index_block::{
+    Geometry, Place, WINDOW_BYTES, first_free, next_seq, set_free, set_used, write_block,
+};
+use label_codec::{LABEL_LEN, Label, write_label};
+use rig_trait::{Failed, Rig};
+use std::slice::from_ref;
+
+/// The bytes of a bitmap for as many slots as an area can have.
+const BITMAP: usize = 512;
+
+impl Area {
+    ghost use Rattle.std.specs.FinMap.{get};
+
+    /// Frees slots in use, whether they have a label or are junk. It writes the index block that isn't the current one, with
+    /// the next sequence number, and nothing else. A stop at any moment leaves the area as it stood before, or without
+    /// the labels in these slots.
+    pub fn free<R: Rig>(&mut self, rig: &mut R, slots: &[u32]) -> Result<(), Failed>
+        requires used { All (λ slot. IsTrue (is_used self.old slot)) slots.now }
+        requires sized { IsTold R.Shown rig.old → IsSized self.old (R.areas rig.old) }
+        ensures freed { OnOk result (shown_by self.new ≡ after_free self.old slots.now) }
+        ensures kept { OnErr result (self.new ≡ self.old) }
+        ensures dimm { self.new.dimm ≡ self.old.dimm }
+        ensures geometry { self.new.geometry ≡ self.old.geometry }
+        ensures shown { IsTold R.Shown rig.old → IsShown self.old (R.areas rig.old) → OnOk result (IsShown self.new (R.areas rig.new)) }
+        ensures any_moment { IsTold R.Shown rig.old → IsShown self.old (R.areas rig.old) → LeavesOnly R.Shown rig.old rig.new (LeftByFlip (R.areas rig.old) (R.said rig.old) self.old.dimm (after_free self.old slots.now)) }
+        ensures writes_only { WritesTo self.old.dimm R.Shown rig.old rig.new }
+        ensures cause { FailsAt self.old.dimm R.Shown rig.old rig.new (is_err result) }
+        ensures reads { R.reads rig.new ≡ R.reads rig.old }
+    {
+        let geometry = self.geometry();
+        let place = self.place.other();
+        let seq = next_seq(self.seq);
+        let free = freed_bits(&self.free, geometry.slots, slots);
+        write_next(rig, self.dimm, &geometry, place, seq, &free)?;
+        self.keep(place, seq, &free, slots);
+        Ok(())
+    }
+
+    /// Puts a label into the least free slot, with the number of that slot, which it answers, and frees the slot of a label
+    /// that it replaces. It writes the slot and then the index block that isn't the current one, with the next sequence
+    /// number, and nothing else. A stop at any moment leaves the area as it stood before, or with the label and without the
+    /// one that it replaces.
+    pub fn put<R: Rig>(
+        &mut self,
+        rig: &mut R,
+        label: &Label,
+        replaces: Option<u32>,
+    ) -> Result<u32, Failed>
+        requires free { HasFree self.old }
+        requires replaces { IfSome replaces (λ slot. IsSome (get self.old.live slot)) }
+        requires sized { IsTold R.Shown rig.old → IsSized self.old (R.areas rig.old) }
+        ensures slot { IfOk result (λ slot. slot ≡ first_slot self.old) }
+        ensures first { IsFirstFree self.old.free self.old.geometry.slots (first_slot self.old) }
+        ensures was_free { get self.old.live (first_slot self.old) ≡ None }
+        ensures put { OnOk result (shown_by self.new ≡ after_put self.old label.now replaces) }
+        ensures kept { OnErr result (self.new ≡ self.old) }
+        ensures dimm { self.new.dimm ≡ self.old.dimm }
+        ensures geometry { self.new.geometry ≡ self.old.geometry }
+        ensures shown { IsTold R.Shown rig.old → IsShown self.old (R.areas rig.old) → OnOk result (IsShown self.new (R.areas rig.new)) }
+        ensures any_moment { IsTold R.Shown rig.old → IsShown self.old (R.areas rig.old) → LeavesOnly R.Shown rig.old rig.new (LeftByFlip (R.areas rig.old) (R.said rig.old) self.old.dimm (after_put self.old label.now replaces)) }
+        ensures writes_only { WritesTo self.old.dimm R.Shown rig.old rig.new }
+        ensures cause { FailsAt self.old.dimm R.Shown rig.old rig.new (is_err result) }
+        ensures reads { R.reads rig.new ≡ R.reads rig.old }
+    {
+        let geometry = self.geometry();
+        let slot = self.first_slot();
+        let label = Label { slot, ..*label };
+        let mut text = [0; LABEL_LEN];
+        write_label(&label, &mut text);
+        let place = self.place.other();
+        let seq = next_seq(self.seq);
+        let freed = replaced(&replaces);
+        let mut free = freed_bits(&self.free, geometry.slots, freed);
+        set_used(&mut free, slot);
+        write_flip(rig, self.dimm, &geometry, slot, &text, place, seq, &free)?;
+        self.keep(place, seq, &free, freed);
+        self.keep_label(slot, label);
+        Ok(slot)
+    }
+
+    /// The least free slot.
+    fn first_slot(&self) -> u32
+        requires { HasFree self.now }
+        ensures is { result ≡ first_slot self.now }
+        ensures first { IsFirstFree self.now.free self.now.geometry.slots result }
+    {
+        match first_free(&self.free, self.geometry.slots) {
+            Some(slot) => slot,
+            // One of the slots is free.
+            None => unreachable!(),
+        }
+    }
+
+    /// Keeps the label of a slot in use.
+    fn keep_label(&mut self, slot: u32, label: Label)
+        requires { IsTrue (is_used self.old slot) }
+        ensures rest { self.new ≡ record self.old { live = self.new.live } }
+        ensures live { (k : ℕ) → get self.new.live k ≡ (if k == slot then Some label else get self.old.live k) }
+    {
+        self.labels[slot as usize] = Some(label);
+    }
+
+    /// Keeps what a flip that freed slots made of the area.
+    fn keep(&mut self, place: Place, seq: u32, free: &[u8; BITMAP], freed: &[u32])
+        requires freed { All (λ slot. slot < self.old.geometry.slots) freed.now }
+        requires seq { IsSeq seq }
+        requires bits { (k : ℕ) → k < self.old.geometry.slots → is_among freed.now k ≡ false → is_free_in self.old.free k ≡ false → is_free_in free.now k ≡ false }
+        ensures rest { self.new ≡ record self.old { place = place; seq = seq; free = self.new.free; live = self.new.live } }
+        ensures bits { (k : ℕ) → k < self.old.geometry.slots → is_free_in self.new.free k ≡ is_free_in free.now k }
+        ensures live { (k : ℕ) → get self.new.live k ≡ (if is_among freed.now k then None else get self.old.live k) }
+    {
+        let len = self.free.len();
+        self.free.copy_from_slice(&free[..len]);
+        clear(&mut self.labels, freed);
+        self.place = place;
+        self.seq = seq;
+    }
+}
+
+/// A bitmap with these slots free as well.
+fn freed_bits(free: &[u8], slots: u32, freed: &[u32]) -> [u8; BITMAP]
+    requires bits { length free.now ≡ bitmap_len slots }
+    requires most { slots ≤ 4096 }
+    requires freed { All (λ slot. slot < slots) freed.now }
+    ensures { (k : ℕ) → k < slots → is_free_in result k ≡ (is_among freed.now k || is_free_in free.now k) }
+{
+    let mut bits = [0; BITMAP];
+    bits[..free.len()].copy_from_slice(free);
+    for slot in freed {
+        set_free(&mut bits, *slot);
+    }
+    bits
+}
+
+/// The slot of a label that is replaced.
+fn replaced(replaces: &Option<u32>) -> &[u32]
+    ensures { result.now ≡ replaced replaces.now }
+{
+    match replaces {
+        None => &[],
+        Some(slot) => from_ref(slot),
+    }
+}
+
+/// Takes the labels of some slots away.
+fn clear(labels: &mut [Option<Label>], freed: &[u32])
+    requires { All (λ slot. slot < length labels.old) freed.now }
+    ensures labels { (k : ℕ) → slice_index_or labels.new k None ≡ (if is_among freed.now k then None else slice_index_or labels.old k None) }
+    ensures len { length labels.new ≡ length labels.old }
+{
+    for slot in freed {
+        labels[*slot as usize] = None;
+    }
+}
+
+/// Writes the index block of a place.
+fn write_next<R: Rig>(
+    rig: &mut R,
+    dimm: u32,
+    geometry: &Geometry,
+    place: Place,
+    seq: u32,
+    free: &[u8; BITMAP],
+) -> Result<(), Failed>
+    requires geometry { IsGeometry geometry.now }
+    requires label { geometry.now.label ≡ 256 }
+    requires seq { IsSeq seq }
+    requires sized { IsTold R.Shown rig.old → size_in (R.areas rig.old) dimm ≡ Some (2 * geometry.now.block + geometry.now.slots * geometry.now.label) }
+    ensures written { WritesBytes R.Shown rig.old rig.new dimm (place_offset geometry.now place) (block_text place seq geometry.now free.now) result }
+    ensures stops { WriteLeaves R.Shown rig.old rig.new dimm (place_offset geometry.now place) (block_text place seq geometry.now free.now) result }
+    ensures writes_only { WritesTo dimm R.Shown rig.old rig.new }
+    ensures cause { FailsAt dimm R.Shown rig.old rig.new (is_err result) }
+    ensures reads { R.reads rig.new ≡ R.reads rig.old }
+{
+    let mut block = [0; WINDOW_BYTES];
+    let block = &mut block[..geometry.block as usize];
+    write_block(block, place, seq, geometry, free);
+    rig.write(dimm, u64::from(geometry.place_offset(place)), block)
+}
+
+/// Writes the text of a label into its slot, and then the index block of a place.
+fn write_flip<R: Rig>(
+    rig: &mut R,
+    dimm: u32,
+    geometry: &Geometry,
+    slot: u32,
+    text: &[u8; LABEL_LEN],
+    place: Place,
+    seq: u32,
+    free: &[u8; BITMAP],
+) -> Result<(), Failed>
+    requires geometry { IsGeometry geometry.now }
+    requires label { geometry.now.label ≡ 256 }
+    requires slot { slot < geometry.now.slots }
+    requires seq { IsSeq seq }
+    requires sized { IsTold R.Shown rig.old → size_in (R.areas rig.old) dimm ≡ Some (2 * geometry.now.block + geometry.now.slots * geometry.now.label) }
+    ensures both { WritesBoth R.Shown rig.old rig.new dimm (slot_offset geometry.now slot) text.now (place_offset geometry.now place) (block_text place seq geometry.now free.now) result }
+    ensures any_moment { LeavesTwo R.Shown rig.old rig.new dimm (slot_offset geometry.now slot) text.now (place_offset geometry.now place) (block_text place seq geometry.now free.now) }
+    ensures writes_only { WritesTo dimm R.Shown rig.old rig.new }
+    ensures cause { FailsAt dimm R.Shown rig.old rig.new (is_err result) }
+    ensures reads { R.reads rig.new ≡ R.reads rig.old }
+{
+    let mut block = [0; WINDOW_BYTES];
+    let block = &mut block[..geometry.block as usize];
+    write_block(block, place, seq, geometry, free);
+    let at = u64::from(2 * geometry.block + slot * geometry.label);
+    let block_at = u64::from(geometry.place_offset(place));
+    rig_trait::write_two(rig, dimm, at, text, block_at, block)
+}
