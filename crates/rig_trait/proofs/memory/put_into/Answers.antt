@@ -22,13 +22,13 @@ returns-in-Some c =
     let put = c.args.bytes.now in
     let found : Some old ≡ tree.get nat_cmp c.args.areas.now c.args.dimm = c.in-Some.ensures.value in
     let area_is = area-areas_of c.args.areas.now c.args.dimm old found in
-    let put_is : c.put.new.area ≡ patched (area (areas_of c.args.areas.now) c.args.dimm) c.args.at put =
+    let put_is : c.put.new.into ≡ patched (area (areas_of c.args.areas.now) c.args.dimm) c.args.at put =
     c.put.ensures ∙ ap (λ bytes. patched bytes c.args.at put) (c.deref_mut.ensures.value ∙ sym area_is) in
-    let same_length : length c.put.new.area ≡ old.len =
+    let same_length : length c.put.new.into ≡ old.len =
     ap length put_is ∙ length-patched (area (areas_of c.args.areas.now) c.args.dimm) put c.args.at c.requires.fits ∙ ap length area_is ∙ sym old.ok.0 in
-    let new = with_items old c.put.new.area in
+    let new = with_items old c.put.new.into in
     areas_of-inserted c.args.areas.now (c.get_mut.follows.lender new) c.args.dimm new ((c.get_mut.follows.holds new).3 (rw (← found) refl)).0
-    ∙ ap (insert (areas_of c.args.areas.now) c.args.dimm) (with_items_is old c.put.new.area same_length ∙ put_is)
+    ∙ ap (insert (areas_of c.args.areas.now) c.args.dimm) (with_items_is old c.put.new.into same_length ∙ put_is)
 
 pub returns-in_default : goal.returns-in_default
 returns-in_default c =

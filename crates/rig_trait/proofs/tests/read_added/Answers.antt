@@ -1,6 +1,6 @@
 use Rattle.std.proofs.Common.{◌≡◌, ℕ, ◌+◌, ◌≤◌, List, Some, length, arith, rules}
 use Rattle.std.specs.FinMap.{get, insert, gets}
-use Rattle.rig_trait.specs.Rig.{Areas, IsWithin}
+use Rattle.rig_trait.specs.Areas.{Areas, IsWithin}
 use Rattle.rig_trait.proofs.tests.read_added.Goals as goal
 
 get-insert_same : (areas : Areas) (dimm : ℕ) (bytes : List ℕ) → get (insert areas dimm bytes) dimm ≡ Some bytes
