@@ -14,7 +14,7 @@ use Rattle.label_table.specs.Spaces.{Space, is_pending, space, space_if, space_o
 use Rattle.label_table.specs.Fates.{held_count, is_dead, is_held, is_of_namespace, is_stale, is_unfinished, is_whole_in, kept_count, spare, without_slot}
 use Rattle.label_table.specs.Flips.{ReplacesOne}
 use Rattle.label_table.specs.Tables.{changed_at, state, table, with_changed_namespace}
-use Rattle.label_table.proofs.Tests.{uuid_is}
+use Rattle.label_table.proofs.ListTests.{uuid_is}
 use Rattle.label_table.proofs.WholeUuids.{IsLed, region_of-belongs, whole-led}
 use Rattle.label_table.proofs.Leaving.{label_if-some}
 use Rattle.label_table.proofs.Confined.{ChangesOne, dead-else, held-else, kind-same, number-none, number-same, number-shared, pending-else, pending-other, slots-same, space-else, space-other, whole-count, whole-mine}

@@ -13,7 +13,7 @@ use Rattle.region_map.specs.declared.platform.Region.{Region}
 use Rattle.label_table.specs.Division.{has_offset, namespaces_over}
 use Rattle.label_table.specs.Namespaces.{first_clash, first_clash_from, insert_space, namespaces, overlaps, space_cmp, without_uuid}
 use Rattle.label_table.specs.Spaces.{Space}
-use Rattle.label_table.proofs.Tests.{Contains-cases, Contains-here, Contains-none, Contains-there, both, eq_other, le_from, le_true, lt_from, lt_not, lt_true, never}
+use Rattle.label_table.proofs.ListTests.{Contains-cases, Contains-here, Contains-none, Contains-there, both, eq_other, le_from, le_true, lt_from, lt_not, lt_true, never}
 use Rattle.label_table.proofs.Listed.{namespaces-from, space-not_empty, without_uuid-cases}
 use Rattle.label_table.proofs.Order.{Ascends, Before, before-asym, insert_space-cases}
 

@@ -16,7 +16,7 @@ use Rattle.label_table.specs.Spaces.{is_pending, space}
 use Rattle.label_table.specs.Fates.{is_dead, is_held, is_of_namespace, is_stale, is_unfinished, is_whole_in}
 use Rattle.label_table.specs.Flips.{IsConfined, other_labels}
 use Rattle.label_table.specs.Tables.{is_member}
-use Rattle.label_table.proofs.Tests.{both, eq_true, list_all-same, list_any-found, list_any-none, list_any-same, never, not_true, some_is, uuid_is, uuid_other}
+use Rattle.label_table.proofs.ListTests.{both, eq_true, list_all-same, list_any-found, list_any-none, list_any-same, never, not_true, some_is, uuid_is, uuid_other}
 use Rattle.label_table.proofs.WholeUuids.{IsInside, IsOnce, inside, pending-same, place, region_is, region_of-belongs, same_module, space-same, whole-each, whole-same}
 use Rattle.label_table.proofs.Leaving.{label_if-passes, label_if-some, within}
 

@@ -13,7 +13,7 @@ use Rattle.label_table.specs.Belonging.{IsDisjoint, region_at}
 use Rattle.label_table.specs.Spaces.{is_pending, space}
 use Rattle.label_table.specs.Fates.{held_count, spare}
 use Rattle.label_table.specs.Tables.{changed_at, is_member, is_named, slot_of, state, table}
-use Rattle.label_table.proofs.Tests.{both, eq_same, eq_true, find-some, list_any-at, uuid_is, uuid_other}
+use Rattle.label_table.proofs.ListTests.{both, eq_same, eq_true, find-some, list_any-at, uuid_is, uuid_other}
 
 -- a value of each region and uuid, by the index of the region
 abbrev pub by_index : {A : Type 0} → Platform → A → (Region → List ℕ → A) → ℕ → List ℕ → A

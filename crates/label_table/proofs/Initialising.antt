@@ -19,7 +19,7 @@ use Rattle.label_table.specs.Tables.{table}
 use Rattle.label_table.specs.Wholes.{all_ready, any_label, is_doubled, is_whole, label_count, labels_with}
 use Rattle.label_table.proofs.Confined.{number-none, number-same, whole-count}
 use Rattle.label_table.proofs.Equations.{by_index-same}
-use Rattle.label_table.proofs.Tests.{both, eq_other, eq_same, list_all-at, list_all-from, list_any-same, never}
+use Rattle.label_table.proofs.ListTests.{both, eq_other, eq_same, list_all-at, list_all-from, list_any-same, never}
 use Rattle.label_table.proofs.WholeUuids.{pending-same, space-same, whole-same}
 use Rattle.label_table.proofs.Settled.{Settles, and_three, held-often, number-either, settled-held, settled-kept, stays_dead, vanishes-dead}
 

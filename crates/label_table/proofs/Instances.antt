@@ -29,7 +29,7 @@ use Rattle.label_table.proofs.Partition.{partition}
 use Rattle.label_table.proofs.Releasing.{release-table}
 use Rattle.label_table.proofs.Staging.{left-state, staged-gains, staged-kept}
 use Rattle.label_table.proofs.StatusLaws.{ready-without}
-use Rattle.label_table.proofs.Tests.{Contains-cases, Contains-here, Contains-none, Contains-there, eq_other, eq_same, eq_true, le_from, lt_from, lt_not, never, none_some, some_is}
+use Rattle.label_table.proofs.ListTests.{Contains-cases, Contains-here, Contains-none, Contains-there, eq_other, eq_same, eq_true, le_from, lt_from, lt_not, never, none_some, some_is}
 use Rattle.label_table.proofs.WholeUuids.{same_module}
 
 first_member : Member

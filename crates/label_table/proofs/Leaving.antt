@@ -14,7 +14,7 @@ use Rattle.label_table.specs.Wholes.{all_ready, any_label, is_doubled, is_whole,
 use Rattle.label_table.specs.Spaces.{is_pending, space}
 use Rattle.label_table.specs.Fates.{is_dead, is_held, is_of_namespace, is_stale, is_unfinished, is_whole_in, kept_count}
 use Rattle.label_table.specs.Flips.{LeavesOutDead, LosesDead}
-use Rattle.label_table.proofs.Tests.{both, never, list_all-same, list_any-same, list_any-none, uuid_is, uuid_same, some_is}
+use Rattle.label_table.proofs.ListTests.{both, never, list_all-same, list_any-same, list_any-none, uuid_is, uuid_same, some_is}
 use Rattle.label_table.proofs.WholeUuids.{IsDead, IsInside, IsOnce, dead_is, inside, pending-same, place, region_is, region_of-belongs, same_module, space-same, whole-each, whole-same}
 
 -- a label of a uuid, in a module's own slot

@@ -1,6 +1,6 @@
 mod Examples
 mod Rows
-pub mod Tests
+pub mod ListTests
 pub mod WholeUuids
 pub mod Leaving
 pub mod Confined

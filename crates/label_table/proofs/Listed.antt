@@ -15,7 +15,7 @@ use Rattle.label_table.specs.Division.{part_size, size_among}
 use Rattle.label_table.specs.Wholes.{any_label, any_read_only, is_whole, label_count, labels_with, leading_among, leading_label}
 use Rattle.label_table.specs.Spaces.{Space, space, space_if, space_of}
 use Rattle.label_table.specs.Namespaces.{insert_space, namespaces, spaces_among, spaces_by_slot, without_uuid}
-use Rattle.label_table.proofs.Tests.{Contains-cases, Contains-here, Contains-none, Contains-there, both, never, none_some, some_is, uuid_is, uuid_other, uuid_same}
+use Rattle.label_table.proofs.ListTests.{Contains-cases, Contains-here, Contains-none, Contains-there, both, never, none_some, some_is, uuid_is, uuid_other, uuid_same}
 use Rattle.label_table.proofs.WholeUuids.{IsInside, IsLed, IsOnce, inside, place, position-own, whole-each, whole-led}
 use Rattle.label_table.proofs.Leaving.{label_if-passes, label_if-some}
 use Rattle.label_table.proofs.Confined.{whole-count}

@@ -15,7 +15,7 @@ use Rattle.label_table.specs.Spaces.{is_pending, space, space_if}
 use Rattle.label_table.specs.Fates.{held_count, is_dead, is_held, is_of_namespace, is_stale, is_unfinished, is_whole_in, kept_count, spare, without_slot}
 use Rattle.label_table.specs.Flips.{FreesOne, other_labels}
 use Rattle.label_table.specs.Tables.{slot_of, state, without_namespace}
-use Rattle.label_table.proofs.Tests.{both, list_any-never, never, uuid_is}
+use Rattle.label_table.proofs.ListTests.{both, list_any-never, never, uuid_is}
 use Rattle.label_table.proofs.WholeUuids.{dead-from, region_of-belongs}
 use Rattle.label_table.proofs.Leaving.{label_if-some}
 use Rattle.label_table.proofs.Confined.{ChangesOne, dead-else, held-else, kind-same, member-cases, number-away, number-none, number-rest, number-same, number-shared, number-split, doubled-else, pending-else, pending-other, ready-any, slots-same, space-else, space-other, whole-count, whole-mine}

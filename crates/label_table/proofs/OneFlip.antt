@@ -8,7 +8,7 @@ use Rattle.module_labels.specs.Labels.{IsBounded, Labels, Module, has, label_if}
 use Rattle.region_map.specs.declared.platform.Platform.{Platform}
 use Rattle.label_table.specs.Fates.{is_dead}
 use Rattle.label_table.specs.Flips.{IsConfined, LeavesOut, LosesDead, other_labels}
-use Rattle.label_table.proofs.Tests.{eq_other, eq_same, eq_true, some_is}
+use Rattle.label_table.proofs.ListTests.{eq_other, eq_same, eq_true, some_is}
 use Rattle.label_table.proofs.WholeUuids.{same_module}
 
 -- the module at a handle, and those of the others

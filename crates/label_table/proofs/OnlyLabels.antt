@@ -9,7 +9,7 @@ use Rattle.module_labels.proofs.Counting.{IsFirst, Slots, count-none, count-one,
 use Rattle.label_table.specs.Plain.{HasOnly, IsOnly}
 use Rattle.label_table.specs.Wholes.{any_label}
 use Rattle.label_table.proofs.Confined.{number-none, number-same}
-use Rattle.label_table.proofs.Tests.{both, eq_other, none_some, some_is}
+use Rattle.label_table.proofs.ListTests.{both, eq_other, none_some, some_is}
 
 pub first_below-none : (f : Slots) (n : ℕ) → first_below f n ≡ None → f n ≡ None → first_below f (n + 1) ≡ None
 first_below-none f n below here =

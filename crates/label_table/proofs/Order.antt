@@ -19,7 +19,7 @@ use Rattle.region_map.specs.declared.platform.Region.{Region}
 use Rattle.label_table.specs.Wholes.{any_read_only, is_whole, labels_with, leading_among, leading_label}
 use Rattle.label_table.specs.Spaces.{Space, space, space_if, space_of}
 use Rattle.label_table.specs.Namespaces.{in_order, insert_space, space_cmp, spaces_below}
-use Rattle.label_table.proofs.Tests.{Contains-cases, Contains-here, Contains-none, Contains-there, both, none_some, some_is, uuid_is}
+use Rattle.label_table.proofs.ListTests.{Contains-cases, Contains-here, Contains-none, Contains-there, both, none_some, some_is, uuid_is}
 use Rattle.label_table.proofs.WholeUuids.{IsLed, whole-led}
 use Rattle.label_table.proofs.Leaving.{label_if-some}
 

@@ -14,7 +14,7 @@ use Rattle.label_table.specs.Statuses.{RegionReady, status}
 use Rattle.label_table.proofs.Clashes.{count_by-one, first_clash-none, none_empty}
 use Rattle.label_table.proofs.Listed.{namespaces-ascends}
 use Rattle.label_table.proofs.StatusLaws.{ready-parts}
-use Rattle.label_table.proofs.Tests.{Contains-cases, Contains-here, Contains-none, Contains-there, le_from, le_true, lt_from, lt_true}
+use Rattle.label_table.proofs.ListTests.{Contains-cases, Contains-here, Contains-none, Contains-there, le_from, le_true, lt_from, lt_true}
 
 -- an offset in an extent
 abbrev pub IsOf : ℕ → Extent → Type 0

@@ -21,7 +21,7 @@ use Rattle.label_table.specs.Wholes.{all_ready, any_label, is_doubled, is_whole,
 use Rattle.label_table.proofs.Confined.{kind-same, number-none, number-same, number-split, other-same, slots-same, whole-count}
 use Rattle.label_table.proofs.Equations.{by_index-same}
 use Rattle.label_table.proofs.Leaving.{label_if-some}
-use Rattle.label_table.proofs.Tests.{both, eq_other, eq_same, list_all-same, list_any-more, list_any-same, never, not_true, uuid_is, uuid_other}
+use Rattle.label_table.proofs.ListTests.{both, eq_other, eq_same, list_all-same, list_any-more, list_any-same, never, not_true, uuid_is, uuid_other}
 use Rattle.label_table.proofs.WholeUuids.{IsOnce, pending-same, region_of-belongs, space-same, whole-each, whole-same}
 use Rattle.label_table.proofs.Settled.{Settles, and_three, held-often, number-either, settled-held, settled-kept, stays_dead, vanishes-dead}
 

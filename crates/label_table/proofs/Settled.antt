@@ -16,7 +16,7 @@ use Rattle.label_table.specs.Tables.{Table}
 use Rattle.label_table.specs.Wholes.{all_ready, any_label, is_doubled, is_whole, label_count, labels_with, leading_label}
 use Rattle.label_table.proofs.Confined.{number-same, whole-count}
 use Rattle.label_table.proofs.Leaving.{dead-once}
-use Rattle.label_table.proofs.Tests.{both, list_all-same, never, not_true, uuid_is}
+use Rattle.label_table.proofs.ListTests.{both, list_all-same, never, not_true, uuid_is}
 use Rattle.label_table.proofs.WholeUuids.{IsInside, IsLed, inside, place, region_is, whole-led}
 
 -- a weaker test counts no less

@@ -12,7 +12,7 @@ use Rattle.region_map.specs.Sound.{IsUsable}
 use Rattle.region_map.proofs.Disjoint.{disjoint, unusable_region, usable_region}
 use Rattle.region_map.proofs.Ordered.{ordered}
 use Rattle.label_table.specs.Belonging.{IsDisjoint, member_at, no_member, region_at}
-use Rattle.label_table.proofs.Tests.{Contains-cases, Contains-none, eq_other, eq_same, some_is}
+use Rattle.label_table.proofs.ListTests.{Contains-cases, Contains-none, eq_other, eq_same, some_is}
 
 -- where indexes ascend, the first region with an index is the only one
 first_index : (rs : List Region) → AllPairs (λ (a b : Region). a.index < b.index) rs → (r : Region) → Contains rs r → find (λ (q : Region). q.index == r.index) rs ≡ Some r

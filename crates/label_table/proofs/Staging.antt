@@ -17,7 +17,7 @@ use Rattle.label_table.specs.Spaces.{Space, is_pending, space}
 use Rattle.label_table.specs.Fates.{is_dead}
 use Rattle.label_table.specs.Flips.{AddsOne, AreAligned, ExactlyOne, FreesOne, IsConfined, LeavesOut, LeavesOutDead, LosesDead}
 use Rattle.label_table.specs.Tables.{State, changed_at, slot_of, state, with_namespace, without_namespace}
-use Rattle.label_table.proofs.Tests.{both, eq_same, list_all-from, list_any-at, list_any-never, some_is, uuid_is}
+use Rattle.label_table.proofs.ListTests.{both, eq_same, list_all-from, list_any-at, list_any-never, some_is, uuid_is}
 use Rattle.label_table.proofs.WholeUuids.{dead-from, region_of-belongs}
 use Rattle.label_table.proofs.Leaving.{label_if-some, held-kept, kept_count-kept, number-kept, pending-kept, space-kept}
 use Rattle.label_table.proofs.Confined.{IsConfined-sym, kind-same, number-none, number-same, slots-same, whole-count}

@@ -21,7 +21,7 @@ use Rattle.label_table.proofs.Clashes.{Meet, NoneOverlap, count_by-zero, first_c
 use Rattle.label_table.proofs.Equations.{space-of_table}
 use Rattle.label_table.proofs.Listed.{namespaces-ascends, namespaces-same, namespaces-to, namespaces-with, namespaces-without, without_uuid-cases}
 use Rattle.label_table.proofs.Order.{before-total, space-uuid}
-use Rattle.label_table.proofs.Tests.{both, eq_same, eq_true, never, some_is, uuid_other, uuid_same}
+use Rattle.label_table.proofs.ListTests.{both, eq_same, eq_true, never, some_is, uuid_other, uuid_same}
 
 -- Tables that are equal tell the same of each region of the platform.
 pub status-kept : (P : Platform) → IsDisjoint P → (L M : Labels) → table P M ≡ table P L → (q : Region) → Contains P.regions q → status M q ≡ status L q

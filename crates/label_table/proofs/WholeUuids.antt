@@ -14,7 +14,7 @@ use Rattle.label_table.specs.Belonging.{IsDisjoint, belongs, is_shared_range, me
 use Rattle.label_table.specs.Wholes.{agrees, all_ready, any_label, any_read_only, any_updating, has_one, has_size, is_doubled, is_whole, is_whole_after, is_whole_by, label_count, leading_among, leading_label}
 use Rattle.label_table.specs.Spaces.{space_by, space_if, space_of}
 use Rattle.label_table.specs.Fates.{is_dead, is_stale, is_unfinished}
-use Rattle.label_table.proofs.Tests.{not_true, never, list_all-at, list_all-same, list_any-same, find-some, Contains-here, Contains-there, Contains-cases, Contains-get_or, Contains-none, lt_true, le_true, eq_true}
+use Rattle.label_table.proofs.ListTests.{not_true, never, list_all-at, list_all-same, list_any-same, find-some, Contains-here, Contains-there, Contains-cases, Contains-get_or, Contains-none, lt_true, le_true, eq_true}
 
 -- one module, slot by slot
 pub same_module : (a b : Module) → a.kind ≡ b.kind → a.slots ≡ b.slots → ((k : ℕ) → a.at k ≡ b.at k) → a ≡ b
