@@ -3,6 +3,7 @@
 use crate::top::nd_top;
 use rig_trait::{MemoryRig, MemorySource, Rig, Source};
 use std::alloc::{AllocError, Global};
+use std::process::Abort;
 use std::test::Fail;
 use test_areas::{LABEL, LabelFields, block, name, nfit, old_block, small_area, torn, two_modules};
 
@@ -38,34 +39,34 @@ fn rig_of(alloc: Global, area: &[u8]) -> Result<MemoryRig, AllocError> {
 }
 
 /// Runs a row over an area, on a platform whose NFIT has no structures.
-fn run(rt: &HostRuntime, area: &[u8], row: Row) -> Result<(), Fail> {
-    run_on(rt, &mut rig_of(rt.alloc(), area)?, row)
+fn run(rt: &impl Abort, alloc: Global, area: &[u8], row: Row) -> Result<(), Fail> {
+    run_on(rt, alloc, &mut rig_of(alloc, area)?, row)
 }
 
 /// Runs a row over a rig, on a platform whose NFIT has no structures.
-fn run_on(rt: &HostRuntime, rig: &mut MemoryRig, row: Row) -> Result<(), Fail> {
-    let alloc = rt.alloc();
+fn run_on(rt: &impl Abort, alloc: Global, rig: &mut MemoryRig, row: Row) -> Result<(), Fail> {
     let mut source = MemorySource::new(nfit(alloc, &[])?, Vec::new(alloc));
-    run_with(rt, rig, &mut source, row)
+    run_with(rt, alloc, rig, &mut source, row)
 }
 
 fn run_with(
-    rt: &HostRuntime,
+    rt: &impl Abort,
+    alloc: Global,
     rig: &mut MemoryRig,
     source: &mut MemorySource,
     row: Row,
 ) -> Result<(), Fail> {
-    let alloc = rt.alloc();
     let before = rig.said().len();
-    let status = nd_top(alloc, &words(alloc, row.line)?, rig, source);
-    assert_eq!(rt; status, row.status, "{}", row.line);
+    let words = words(alloc, row.line)?;
+    let status = nd_top(alloc, &words, rig, source);
     let said = rig.said().get(before..).ok_or("nothing is taken back")?;
-    assert_eq!(rt; said, row.text.as_bytes(), "{}", row.line);
+    assert_eq!(rt; status, row.status, "{words:?}");
+    assert_eq!(rt; said, row.text.as_bytes(), "{words:?}");
     Ok(())
 }
 
 /// Whether the area of the module with the handle 1 has these bytes.
-fn expect_area(rt: &HostRuntime, rig: &MemoryRig, bytes: &[u8]) -> Result<(), Fail> {
+fn expect_area(rt: &impl Abort, rig: &MemoryRig, bytes: &[u8]) -> Result<(), Fail> {
     let area = rig.area(1).ok_or("no area")?;
     assert_eq!(rt; area, bytes);
     Ok(())
@@ -74,6 +75,7 @@ fn expect_area(rt: &HostRuntime, rig: &MemoryRig, bytes: &[u8]) -> Result<(), Fa
 /// The two index blocks of an area of two slots, and what is said of it.
 #[test]
 fn blocks(rt: HostRuntime) -> Result<(), Fail> {
+    let alloc = rt.alloc();
     let first = |seq| block(false, seq, ALL_FREE);
     let second = |seq| block(true, seq, ALL_FREE);
     let uninit = "refused not-ready uninit dimm=0x00000001\n";
@@ -146,9 +148,10 @@ fn blocks(rt: HostRuntime) -> Result<(), Fail> {
         (ZEROS, ZEROS, 1, uninit),
     ];
     for (first, second, status, text) in rows {
-        let area = small_area(rt.alloc(), &[first, second, FREE, FREE])?;
+        let area = small_area(alloc, &[first, second, FREE, FREE])?;
         run(
             &rt,
+            alloc,
             &area,
             Row {
                 line: "labels . 1",
@@ -188,6 +191,7 @@ fn names(rt: HostRuntime) -> Result<(), Fail> {
         )?;
         run(
             &rt,
+            alloc,
             &area,
             Row {
                 line: "labels . 1",
@@ -244,6 +248,7 @@ fn slots(rt: HostRuntime) -> Result<(), Fail> {
         )?;
         run(
             &rt,
+            alloc,
             &area,
             Row {
                 line: "labels . 1",
@@ -344,7 +349,7 @@ fn words_and_sizes(rt: HostRuntime) -> Result<(), Fail> {
         ),
     ];
     for (size, row) in rows {
-        run(&rt, &vec![in alloc; 0; size]?, row)?;
+        run(&rt, alloc, &vec![in alloc; 0; size]?, row)?;
     }
     let mut rig = MemoryRig::new(alloc, 64)?;
     let mut source = MemorySource::new(Vec::new(alloc), Vec::new(alloc));
@@ -477,7 +482,7 @@ fn faults(rt: HostRuntime) -> Result<(), Fail> {
         let mut rig = MemoryRig::new(alloc, room)?;
         rig.add(1, area.clone()?)?;
         rig.fail_at(listed.to_vec(alloc)?);
-        run_on(&rt, &mut rig, row)?;
+        run_on(&rt, alloc, &mut rig, row)?;
         assert_eq!(rt; rig.reads(), reads, "{}", row.line);
         expect_area(&rt, &rig, &area)?;
     }
@@ -534,7 +539,7 @@ fn initialise(rt: HostRuntime) -> Result<(), Fail> {
         Some(checksum.as_slice())
     );
     for row in rows {
-        run_on(&rt, &mut rig, row)?;
+        run_on(&rt, alloc, &mut rig, row)?;
         expect_area(&rt, &rig, &initialised(alloc, ZEROS)?)?;
         assert_eq!(rt; rig.area(2).ok_or("no area")?, other.as_slice());
     }
@@ -583,7 +588,7 @@ fn not_initialised(rt: HostRuntime) -> Result<(), Fail> {
     ];
     for (bytes, row) in rows {
         let mut rig = rig_of(alloc, &bytes)?;
-        run_on(&rt, &mut rig, row)?;
+        run_on(&rt, alloc, &mut rig, row)?;
         expect_area(&rt, &rig, &bytes)?;
     }
     Ok(())
@@ -621,7 +626,7 @@ fn lines(rt: HostRuntime) -> Result<(), Fail> {
         ("do", 2, "error words\n"),
     ];
     for (line, status, text) in rows {
-        run(&rt, &vec![in alloc; 0; 1024]?, Row { line, status, text })?;
+        run(&rt, alloc, &vec![in alloc; 0; 1024]?, Row { line, status, text })?;
     }
     let mut long = String::from_str(alloc, "do . #")?;
     for _ in 1..4096 {
@@ -629,6 +634,7 @@ fn lines(rt: HostRuntime) -> Result<(), Fail> {
     }
     run(
         &rt,
+        alloc,
         &[],
         Row {
             line: long.as_str(),
@@ -639,6 +645,7 @@ fn lines(rt: HostRuntime) -> Result<(), Fail> {
     long.push('x')?;
     run(
         &rt,
+        alloc,
         &[],
         Row {
             line: long.as_str(),
@@ -679,7 +686,7 @@ fn faults_of_init(rt: HostRuntime) -> Result<(), Fail> {
     for (call, row, written) in rows {
         let mut rig = rig_of(alloc, &small_area(alloc, &[FREE; 4])?)?;
         rig.fail_at(vec![in alloc; call]?);
-        run_on(&rt, &mut rig, row)?;
+        run_on(&rt, alloc, &mut rig, row)?;
         let first = if written[0] {
             block(false, 3, ALL_FREE)
         } else {
@@ -703,6 +710,7 @@ fn nothing_said(rt: HostRuntime) -> Result<(), Fail> {
     rig.fail_at(vec![in alloc; 0]?);
     run_on(
         &rt,
+        alloc,
         &mut rig,
         Row {
             line: "do . # x",
@@ -752,11 +760,12 @@ fn tables(rt: HostRuntime) -> Result<(), Fail> {
         let mut rig = rig_of(alloc, &small_area(alloc, &[ZEROS; 4])?)?;
         let mut source = MemorySource::new(bytes, Vec::new(alloc));
         if refused.is_empty() {
-            run_with(&rt, &mut rig, &mut source, INITIALISE)?;
+            run_with(&rt, alloc, &mut rig, &mut source, INITIALISE)?;
             expect_area(&rt, &rig, &initialised(alloc, ZEROS)?)?;
         } else {
             run_with(
                 &rt,
+                alloc,
                 &mut rig,
                 &mut source,
                 Row {
@@ -849,7 +858,7 @@ fn faults_of_the_source(rt: HostRuntime) -> Result<(), Fail> {
         rig.fail_at(vec![in alloc; call]?);
         let bytes = nfit(alloc, &two_modules(alloc)?)?;
         let mut source = MemorySource::new(bytes, vec![in alloc; read]?);
-        run_with(&rt, &mut rig, &mut source, row)?;
+        run_with(&rt, alloc, &mut rig, &mut source, row)?;
         assert_eq!(rt; source.faults(), faults, "{}", row.line);
     }
     Ok(())
@@ -879,7 +888,7 @@ fn limit_of_the_source(rt: HostRuntime) -> Result<(), Fail> {
     for (size, row) in rows {
         let mut rig = MemoryRig::new(alloc, 64)?;
         let mut source = MemorySource::new(vec![in alloc; 0; size]?, Vec::new(alloc));
-        run_with(&rt, &mut rig, &mut source, row)?;
+        run_with(&rt, alloc, &mut rig, &mut source, row)?;
     }
     Ok(())
 }
