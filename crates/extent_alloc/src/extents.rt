@@ -158,13 +158,8 @@ impl Extents {
         ensures steps { steps.new ≤ steps.old + length self.old.extents + 8 }
     {
         let cut = cut_at(&self.chain, self.whole, start, steps);
-        put(
-            &mut self.chain,
-            self.whole,
-            cut,
-            Extent { start, len },
-            steps,
-        );
+        let range = Extent { start, len };
+        put(&mut self.chain, self.whole, cut, range, steps);
     }
 
     /// The same extents, whole and room, in memory of its own.

@@ -1,5 +1,5 @@
 -- What fits, told by the greatest aligned length.
-use Rattle.std.proofs.Common.{◌≡◌, ◌⊎◌, inl, inr, ℕ, ◌+◌, ◌-◌, ◌*◌, ◌/◌, ◌%◌, ◌≤◌, ◌<◌, max, Bool, true, false, List, [], ◌∷◌, refl, sym, ap, ◌∙◌, arith}
+use Rattle.std.proofs.Common.{◌≡◌, ◌⊎◌, inl, inr, ℕ, ◌+◌, ◌*◌, ◌/◌, ◌%◌, ◌≤◌, ◌<◌, Bool, true, false, List, [], ◌∷◌, sym, ap, ◌∙◌, arith}
 use Rattle.std.specs.Prelude.{◌||◌}
 use Rattle.std.specs.Int.{next_multiple_of}
 use Rattle.std.proofs.Math.Nat.{mul-mod_left}
@@ -36,11 +36,11 @@ none_in from whole [] len align up some positive whole_len short p multiple free
     let never : false ≡ true = free p (omega arith) (omega arith) in absurd cc
 none_in from whole (e ∷ es) len align up some positive whole_len short p multiple free = elim (cases_lt p (end_of e)) [
   | inl lt ↦
-    let inside : IsInside e p len = inside_first from whole e es p len up some free lt in
-    let next : IsNextMultiple e.start align (next_multiple_of e.start align) = next_multiple e.start align positive in
-    let first = next.least p multiple inside.starts in
-    let last = rounded_down (end_of e) align positive (p + len) (sum_multiple p len align multiple whole_len) inside.ends in
-    absurd (omega arith)
+      let inside : IsInside e p len = inside_first from whole e es p len up some free lt in
+      let next : IsNextMultiple e.start align (next_multiple_of e.start align) = next_multiple e.start align positive in
+      let first = next.least p multiple inside.starts in
+      let last = rounded_down (end_of e) align positive (p + len) (sum_multiple p len align multiple whole_len) inside.ends in
+      absurd (omega arith)
   | inr past ↦ none_in (end_of e + 1) whole es len align up.3 some positive whole_len (omega arith) p multiple
       (λ o ge lt. sym (free_later e es o (omega arith)) ∙ free o ge lt)
 ]

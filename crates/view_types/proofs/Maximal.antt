@@ -1,10 +1,10 @@
 -- A set of offsets has one list of maximal intervals, and each of them is maximal.
-use Rattle.std.proofs.Common.{◌≡◌, ◌⊎◌, inl, inr, ℕ, zero, suc, ◌+◌, ◌≤◌, ◌<◌, Bool, true, false, List, [], ◌∷◌, Option, Some, None, slice_get, refl, sym, ap, ◌∙◌, subst, arith}
+use Rattle.std.proofs.Common.{◌≡◌, inl, inr, ℕ, zero, suc, ◌+◌, ◌≤◌, ◌<◌, Bool, true, false, List, [], ◌∷◌, Some, slice_get, refl, sym, ◌∙◌, subst, arith}
 use Rattle.std.specs.Prelude.{◌||◌}
 use Rattle.std.proofs.lemmas.Bool.{cases_lt}
 use Rattle.view_types.specs.declared.extents.Extent.{Extent}
-use Rattle.view_types.specs.Intervals.{end_of, is_within, is_free, AllFree, Ascend, AreMaximal, IsMaximal}
-use Rattle.view_types.proofs.Intervals.{within_yes, within_above, none_below, free_later, or_true}
+use Rattle.view_types.specs.Intervals.{end_of, is_within, is_free, Ascend, AreMaximal, IsMaximal}
+use Rattle.view_types.proofs.Intervals.{within_yes, none_below, free_later, or_true}
 
 -- the first offset of a list is free, and so are those of its first extent
 free_in_first : (e : Extent) (es : List Extent) (o : ℕ) → e.start ≤ o → o < end_of e → is_free (e ∷ es) o ≡ true
@@ -23,18 +23,18 @@ module _ (from whole : ℕ) (e f : Extent) (es fs : List Extent) (up_e : Ascend 
   no_later = elim (cases_lt e.start f.start) [
     | inr le ↦ le
     | inl lt ↦
-      let a : is_free (e ∷ es) e.start ≡ true = free_in_first e es e.start (omega arith) (omega (arith, up_e.1)) in
-      let b : is_free (f ∷ fs) e.start ≡ false = below_first from whole f fs e.start up_f lt in
-      let never : true ≡ false = sym a ∙ same e.start ∙ b in absurd cc
+        let a : is_free (e ∷ es) e.start ≡ true = free_in_first e es e.start (omega arith) (omega (arith, up_e.1)) in
+        let b : is_free (f ∷ fs) e.start ≡ false = below_first from whole f fs e.start up_f lt in
+        let never : true ≡ false = sym a ∙ same e.start ∙ b in absurd cc
   ]
 
   no_longer : e.start ≡ f.start → end_of f ≤ end_of e
   no_longer start = elim (cases_lt (end_of e) (end_of f)) [
     | inr le ↦ le
     | inl lt ↦
-      let a : is_free (e ∷ es) (end_of e) ≡ false = behind_first from whole e es up_e in
-      let b : is_free (f ∷ fs) (end_of e) ≡ true = free_in_first f fs (end_of e) (omega arith) lt in
-      let never : false ≡ true = sym a ∙ same (end_of e) ∙ b in absurd cc
+        let a : is_free (e ∷ es) (end_of e) ≡ false = behind_first from whole e es up_e in
+        let b : is_free (f ∷ fs) (end_of e) ≡ true = free_in_first f fs (end_of e) (omega arith) lt in
+        let never : false ≡ true = sym a ∙ same (end_of e) ∙ b in absurd cc
   ]
 
 same_later : (whole : ℕ) (e f : Extent) (es fs : List Extent) → end_of e ≡ end_of f → Ascend (end_of e + 1) whole es → Ascend (end_of f + 1) whole fs
@@ -62,7 +62,7 @@ unique from whole (e ∷ es) (f ∷ fs) up_e up_f same =
     let len : e.len ≡ f.len = omega arith in
     let ends : end_of f + 1 ≡ end_of e + 1 = omega arith in
     let rest : es ≡ fs = unique (end_of e + 1) whole es fs up_e.3 (subst (λ x. Ascend x whole fs) ends up_f.3)
-        (same_later whole e f es fs (omega arith) up_e.3 up_f.3 same) in
+    (same_later whole e f es fs (omega arith) up_e.3 up_f.3 same) in
     λ i. record { start = start i; len = len i } ∷ rest i
 
 pub one_list : (whole : ℕ) (free : ℕ → Bool) (es fs : List Extent) → AreMaximal whole free es → AreMaximal whole free fs → es ≡ fs
