@@ -1,11 +1,11 @@
 -- A free range taken out of the free extents.
 use Rattle.std.proofs.Common.{◌≡◌, ◌⊎◌, inl, inr, ℕ, ◌+◌, ◌-◌, ◌≤◌, ◌<◌, Bool, true, false, not, ◌&&◌, List, [], ◌∷◌, Some, slice_get, refl, sym, ap, ◌∙◌, subst, arith}
-use Rattle.std.specs.Prelude.{◌||◌, ◌==◌, nat_le, nat_lt, IfSome, is_some}
+use Rattle.std.specs.Prelude.{◌||◌, IfSome, is_some}
 use Rattle.std.proofs.lemmas.Bool.{cases_lt}
 use Rattle.std.proofs.lemmas.Bool.Decides.{nat_tests}
 use Rattle.view_types.specs.declared.extents.Extent.{Extent}
 use Rattle.view_types.specs.Intervals.{end_of, is_within, is_free, AllFree, Ascend, AreMaximal, IsInside, without_range}
-use Rattle.view_types.proofs.Intervals.{none_below, within_below, within_above, within_yes, ascend_from, inside_first}
+use Rattle.view_types.proofs.Intervals.{none_below, within_below, within_above, ascend_from, inside_first}
 use Rattle.extent_alloc.specs.declared.pool.Link.{Link}
 use Rattle.extent_alloc.specs.Chains.{unwind, extents_of}
 use Rattle.extent_alloc.specs.declared.cuts.Cut.{Cut}

@@ -1,9 +1,9 @@
 -- The first extent in which a range fits.
-use Rattle.std.proofs.Common.{◌≡◌, ◌⊎◌, inl, inr, ℕ, ◌+◌, ◌%◌, ◌^◌, ◌≤◌, ◌<◌, Bool, true, false, List, [], ◌∷◌, refl, sym, ap, ◌∙◌, arith}
+use Rattle.std.proofs.Common.{◌≡◌, ◌⊎◌, inl, inr, ℕ, ◌+◌, ◌%◌, ◌^◌, ◌≤◌, ◌<◌, List, ◌∷◌, sym, ◌∙◌, arith}
 use Rattle.std.specs.Prelude.{◌||◌}
 use Rattle.std.proofs.lemmas.Bool.{cases_lt}
 use Rattle.view_types.specs.declared.extents.Extent.{Extent}
-use Rattle.view_types.specs.Intervals.{end_of, is_within, is_free, AllFree, Ascend, IsInside, IsFirstFit, NoneFits}
+use Rattle.view_types.specs.Intervals.{end_of, is_within, is_free, AllFree, Ascend, IsFirstFit}
 use Rattle.view_types.proofs.Intervals.{within_yes, ascend_from, inside_first, free_later, or_true}
 use Rattle.extent_alloc.specs.Fits.{IsFitIn, NoFitIn, IsLeft}
 
@@ -34,10 +34,6 @@ module _ (whole : ℕ) (all left : List Extent) (e : Extent) (len align : ℕ) (
       by : (p : ℕ) → p % align ≡ 0 → AllFree (is_free (e ∷ left)) p len → (p < end_of e) ⊎ (end_of e ≤ p) → at ≤ p
       by p multiple free (inl lt) = fit.least p multiple (inside_first 0 whole e left p len now.ascend some free lt)
       by p multiple free (inr past) = omega (arith, fit.inside.ends)
-
-pub none_left : (whole : ℕ) (all : List Extent) (len align : ℕ) → 0 < len → IsLeft whole all [] len align → NoneFits (is_free all) len align
-none_left whole all len align some now p multiple free =
-    let never : false ≡ true = now.fits p multiple free p (omega arith) (omega arith) in absurd cc
 
 pub all_left : (whole : ℕ) (all : List Extent) (len align : ℕ) → Ascend 0 whole all → whole < 2 ^ 64 → IsLeft whole all all len align
 all_left whole all len align up bound = record { ascend = up; bound = bound; free_in = λ o free. free; fits = λ p multiple free. free }

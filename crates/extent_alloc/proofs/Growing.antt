@@ -1,19 +1,14 @@
 -- One more spare node beside a chain.
-use Rattle.std.proofs.Common.{◌≡◌, ◌≢◌, ◌⊎◌, inl, inr, ℕ, ◌+◌, ◌-◌, ◌<◌, ◌≤◌, List, [], ◌∷◌, length, Option, None, Some, slice_get, slice_set, drop, refl, sym, ap, ◌∙◌, subst, arith}
-use Rattle.std.specs.Prelude.{MatchOption, IfSome, ◌==◌, if◌then◌else◌}
+use Rattle.std.proofs.Common.{◌≡◌, ◌≢◌, ◌⊎◌, inl, inr, ℕ, ◌+◌, ◌<◌, ◌≤◌, List, length, None, Some, slice_get, drop, sym, ap, ◌∙◌, arith}
 use Rattle.std.proofs.lemmas.Bool.{cases_lt}
 use Rattle.std.proofs.lemmas.Option.{slice_get_within}
-use Rattle.view_types.specs.declared.extents.Extent.{Extent}
-use Rattle.extent_alloc.specs.declared.pool.Node.{Node}
 use Rattle.extent_alloc.specs.declared.pool.Link.{Link}
 use Rattle.extent_alloc.specs.declared.chain.Chain.TheInside.{Inside}
-use Rattle.extent_alloc.specs.Chains.{first_at, times, unwind}
-use Rattle.extent_alloc.specs.Changes.{ChangesAt, after_as, before_as}
-use Rattle.extent_alloc.specs.Linked.{AreLinked, links_in, IsDoublyLinked}
-use Rattle.extent_alloc.proofs.Chains.{Keeps, times-here, slice_get-set_same, slice_get-set_other, keeps_set}
-use Rattle.extent_alloc.proofs.Changes.{keeps_trans, keeps_change, keeps_others}
-use Rattle.extent_alloc.proofs.Unwinding.{length-unwind, times-unwind, first_at-unwind, times-first, times-untaken, length-taken}
-use Rattle.extent_alloc.proofs.Linked.{AreLinkedAt, linked_at, linked, behind_changed, ahead_changed, first_changed, linked_keeps, times-outside, node_at, Becomes, becomes}
+use Rattle.extent_alloc.specs.Chains.{first_at, times}
+use Rattle.extent_alloc.specs.Linked.{links_in, IsDoublyLinked}
+use Rattle.extent_alloc.proofs.Chains.{Keeps}
+use Rattle.extent_alloc.proofs.Unwinding.{times-first, times-untaken, length-taken}
+use Rattle.extent_alloc.proofs.Linked.{linked, linked_keeps, times-outside, Becomes, becomes}
 
 pub grown : (chain new : Inside) → IsDoublyLinked chain → new.first ≡ chain.first → new.len ≡ chain.len
     → times (length chain.pool.nodes) chain.pool.idle ≡ 0 → first_at new.pool.idle ≡ Some (length chain.pool.nodes) → drop 1 new.pool.idle ≡ chain.pool.idle → length new.pool.nodes ≡ length chain.pool.nodes + 1

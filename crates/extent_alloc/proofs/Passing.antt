@@ -1,5 +1,5 @@
 -- A walk along a chain: what is passed, and what comes next.
-use Rattle.std.proofs.Common.{◌≡◌, ℕ, ◌+◌, ◌-◌, ◌<◌, ◌≤◌, List, [], ◌∷◌, length, Option, None, Some, slice_get, refl, sym, ap, ◌∙◌, subst, arith}
+use Rattle.std.proofs.Common.{◌≡◌, ℕ, ◌+◌, ◌<◌, ◌≤◌, List, [], ◌∷◌, Option, Some, sym, ap, ◌∙◌, subst, arith}
 use Rattle.view_types.specs.declared.extents.Extent.{Extent}
 use Rattle.view_types.specs.Intervals.{end_of, Ascend}
 use Rattle.view_types.proofs.Intervals.{ascend_from}
@@ -8,7 +8,7 @@ use Rattle.extent_alloc.specs.declared.pool.Link.{Link}
 use Rattle.extent_alloc.specs.Chains.{first_at, times, unwind, extents_of}
 use Rattle.extent_alloc.specs.Cuts.{IsPassing}
 use Rattle.extent_alloc.proofs.Chains.{times-here}
-use Rattle.extent_alloc.proofs.Unwinding.{times-unwind, length-unwind, extents_of-unwind}
+use Rattle.extent_alloc.proofs.Unwinding.{times-unwind, extents_of-unwind}
 
 -- the first of some links, where its index is known
 pub record First (at : ℕ) (rest : List Link) : Type 0 where

@@ -1,11 +1,11 @@
 -- A range that is not free given back to the free extents.
-use Rattle.std.proofs.Common.{◌≡◌, ◌≢◌, ◌⊎◌, inl, inr, ℕ, ◌+◌, ◌-◌, ◌≤◌, ◌<◌, Bool, true, false, cond, List, [], ◌∷◌, refl, sym, ap, ◌∙◌, subst, arith}
-use Rattle.std.specs.Prelude.{◌||◌, ◌==◌, nat_le, nat_lt, IfSome, slice_get}
+use Rattle.std.proofs.Common.{◌≡◌, ◌≢◌, ◌⊎◌, inl, inr, ℕ, ◌+◌, ◌≤◌, ◌<◌, Bool, true, false, cond, List, [], ◌∷◌, refl, sym, ap, ◌∙◌, subst, arith}
+use Rattle.std.specs.Prelude.{◌||◌, ◌==◌, IfSome, slice_get}
 use Rattle.std.proofs.lemmas.Bool.{cases_lt}
 use Rattle.std.proofs.lemmas.Bool.Decides.{nat_tests, eqb_tells}
 use Rattle.view_types.specs.declared.extents.Extent.{Extent}
 use Rattle.view_types.specs.Intervals.{end_of, is_within, is_free, NoneFree, Ascend, AreMaximal, with_range}
-use Rattle.view_types.proofs.Intervals.{within_yes, ascend_from}
+use Rattle.view_types.proofs.Intervals.{within_yes}
 use Rattle.extent_alloc.specs.declared.pool.Link.{Link}
 use Rattle.extent_alloc.specs.Chains.{unwind, extents_of}
 use Rattle.extent_alloc.specs.Cuts.{EndBy, joined, joined_ahead, joined_in}

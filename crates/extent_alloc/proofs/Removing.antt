@@ -1,7 +1,6 @@
 -- A link out of a chain, whose node is spare then.
-use Rattle.std.proofs.Common.{◌≡◌, ◌≢◌, ℕ, ◌+◌, ◌-◌, ◌<◌, ◌≤◌, List, [], ◌∷◌, length, Option, None, Some, slice_get, slice_set, drop, refl, sym, ap, ◌∙◌, subst, arith}
-use Rattle.std.specs.Prelude.{MatchOption, IfSome, ◌==◌, if◌then◌else◌}
-use Rattle.std.proofs.lemmas.List.{length-set}
+use Rattle.std.proofs.Common.{◌≡◌, ◌≢◌, ℕ, ◌+◌, ◌<◌, List, ◌∷◌, length, None, Some, slice_get, drop, sym, ap, ◌∙◌, subst, arith}
+use Rattle.std.specs.Prelude.{MatchOption}
 use Rattle.std.proofs.lemmas.Option.{slice_get_within}
 use Rattle.view_types.specs.declared.extents.Extent.{Extent}
 use Rattle.extent_alloc.specs.declared.pool.Node.{Node}
@@ -10,10 +9,10 @@ use Rattle.extent_alloc.specs.declared.chain.Chain.TheInside.{Inside}
 use Rattle.extent_alloc.specs.Chains.{first_at, times, unwind}
 use Rattle.extent_alloc.specs.Changes.{ChangesAt, after_as, before_as}
 use Rattle.extent_alloc.specs.Linked.{AreLinked, links_in, IsDoublyLinked}
-use Rattle.extent_alloc.proofs.Chains.{Keeps, times-here, times-later, slice_get-set_same, slice_get-set_other, keeps_set}
+use Rattle.extent_alloc.proofs.Chains.{Keeps, times-here, times-later}
 use Rattle.extent_alloc.proofs.Changes.{keeps_trans, keeps_change, keeps_others}
-use Rattle.extent_alloc.proofs.Unwinding.{length-unwind, times-unwind, first_at-unwind, times-first, times-taken, times-drop, length-taken}
-use Rattle.extent_alloc.proofs.Linked.{AreLinkedAt, linked_at, linked, behind_changed, ahead_changed, first_changed, linked_keeps, within_behind, within_ahead, node_at, Becomes, becomes}
+use Rattle.extent_alloc.proofs.Unwinding.{length-unwind, times-unwind, times-first, times-taken, times-drop, length-taken}
+use Rattle.extent_alloc.proofs.Linked.{AreLinkedAt, linked_at, linked, behind_changed, ahead_changed, first_changed, within_behind, within_ahead, node_at, Becomes, becomes}
 
 pub removed : (chain new : Inside) (at : ℕ) (node : Node) (led back : List Node) → IsDoublyLinked chain → slice_get chain.pool.nodes at ≡ Some node
     → ChangesAt node.before (after_as node.after) chain.pool.nodes led

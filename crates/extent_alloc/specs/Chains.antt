@@ -1,5 +1,5 @@
 -- Chains of nodes through a list of them.
-use Rattle.std.specs.Prelude.{◌≡◌, ℕ, zero, suc, ◌+◌, List, [], ◌∷◌, ◌==◌, if◌then◌else◌, slice_get, map}
+use Rattle.std.specs.Prelude.{ℕ, zero, suc, ◌+◌, List, [], ◌∷◌, ◌==◌, if◌then◌else◌, slice_get, map}
 use Rattle.std.specs.Prelude.{Option, None, Some}
 use Rattle.std.specs.Option.{option_map, unwrap_or}
 use Rattle.view_types.specs.declared.extents.Extent.{Extent}
@@ -30,3 +30,7 @@ extents_of = map (λ (p : Link). p.extent)
 abbrev pub unwind {ℓ} : {X : Type ℓ} → List X → List X → List X
 unwind [] rest = rest
 unwind (x ∷ done) rest = unwind done (x ∷ rest)
+
+-- links with one among them, by its index and its extent
+abbrev pub around : List Link → ℕ → Extent → List Link → List Link
+around done at e rest = unwind done (record { at = at; extent = e } ∷ rest)

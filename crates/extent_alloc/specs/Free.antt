@@ -1,5 +1,5 @@
 -- Free space as contracts see it.
-use Rattle.std.specs.Prelude.{ℕ, List, [], ◌∷◌, ◌==◌, if◌then◌else◌}
+use Rattle.std.specs.Prelude.{ℕ, List, ◌∷◌, ◌==◌, if◌then◌else◌}
 use Rattle.view_types.specs.declared.extents.Extent.{Extent}
 
 -- the free extents, the length of the whole, and the number of spare nodes

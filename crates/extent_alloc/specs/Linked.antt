@@ -1,5 +1,5 @@
 -- What a chain's fields show, and how its nodes lead to one another.
-use Rattle.std.specs.Prelude.{◌≡◌, ◌≢◌, ℕ, ◌+◌, ◌<◌, List, [], ◌∷◌, Option, None, Some, length, slice_get}
+use Rattle.std.specs.Prelude.{◌≡◌, ℕ, ◌+◌, ◌<◌, List, [], ◌∷◌, Option, None, Some, length, slice_get}
 use Rattle.extent_alloc.specs.declared.pool.Node.{Node}
 use Rattle.extent_alloc.specs.declared.pool.Link.{Link}
 use Rattle.extent_alloc.specs.declared.chain.Chain.TheInside.{Inside}

@@ -1,11 +1,12 @@
 //! A doubly linked list of extents, over a pool of nodes.
 
-ghost use Rattle.std.specs.Prelude.{◌≡◌, ℕ, ◌+◌, ◌<◌, ◌≤◌, [], ◌∷◌, List, length, slice_get, Some, MatchOption, IfSome, IfOk, OnErr, OnOk};
+ghost use Rattle.std.specs.Prelude.{◌≡◌, ◌+◌, ◌<◌, ◌≤◌, [], ◌∷◌, List, length, slice_get, Some};
+ghost use Rattle.std.specs.Prelude.{MatchOption, IfSome, IfOk, OnErr, OnOk};
 ghost use Rattle.std.specs.Option.{ForSome};
 ghost use Rattle.view_types.specs.declared.extents.Extent.{Extent};
 ghost use Rattle.extent_alloc.specs.declared.pool.Link.{Link};
 ghost use Rattle.extent_alloc.specs.Chain.{Links};
-ghost use Rattle.extent_alloc.specs.Chains.{first_at, times, unwind, extents_of};
+ghost use Rattle.extent_alloc.specs.Chains.{around, first_at, times, unwind, extents_of};
 ghost use Rattle.extent_alloc.specs.Changes.{ChangesAt, after_as, before_as};
 
 use crate::iter::Iter;
@@ -83,7 +84,7 @@ impl Chain {
     /// The node of an extent, in one step.
     pub(crate) fn node<L: Ledger>(&self, at: usize, steps: &mut Steps<L>) -> Node
         requires { 0 < times at self.now.links }
-        ensures node { (done rest : List Link) (e : Extent) → self.now.links ≡ unwind done (record { at = at; extent = e } ∷ rest)
+        ensures node { (done rest : List Link) (e : Extent) → self.now.links ≡ around done at e rest
             → result ≡ record { extent = e; before = first_at done; after = first_at rest } }
         ensures step { steps.new ≡ steps.old + 1 }
     {
@@ -93,8 +94,8 @@ impl Chain {
     /// Puts another extent into a node, in two steps.
     pub(crate) fn set_extent<L: Ledger>(&mut self, at: usize, extent: Extent, steps: &mut Steps<L>)
         requires { 0 < times at self.old.links }
-        ensures links { (done rest : List Link) (e : Extent) → self.old.links ≡ unwind done (record { at = at; extent = e } ∷ rest)
-            → self.new.links ≡ unwind done (record { at = at; extent = extent } ∷ rest) }
+        ensures links { (done rest : List Link) (e : Extent) → self.old.links ≡ around done at e rest
+            → self.new.links ≡ around done at extent rest }
         ensures spare { self.new.spare ≡ self.old.spare }
         ensures steps { steps.new ≤ steps.old + 2 }
     {
@@ -134,7 +135,7 @@ impl Chain {
     /// Takes an extent out, whose node is spare then: at most six steps.
     pub(crate) fn remove<L: Ledger>(&mut self, at: usize, steps: &mut Steps<L>)
         requires { 0 < times at self.old.links }
-        ensures links { (done rest : List Link) (e : Extent) → self.old.links ≡ unwind done (record { at = at; extent = e } ∷ rest)
+        ensures links { (done rest : List Link) (e : Extent) → self.old.links ≡ around done at e rest
             → self.new.links ≡ unwind done rest }
         ensures spare { self.new.spare ≡ self.old.spare + 1 }
         ensures steps { steps.new ≤ steps.old + 6 }
@@ -184,7 +185,8 @@ fn replace_after<L: Ledger>(
     ensures nodes { ChangesAt before (after_as to) pool.old.nodes pool.new.nodes }
     ensures idle { pool.new.idle ≡ pool.old.idle }
     ensures first { MatchOption before (first.new ≡ to) (λ at. first.new ≡ first.old) }
-    ensures replaced { MatchOption before (result ≡ first.old) (λ at. IfSome (slice_get pool.old.nodes at) (λ node. result ≡ node.after)) }
+    ensures replaced { MatchOption before (result ≡ first.old)
+        (λ at. IfSome (slice_get pool.old.nodes at) (λ node. result ≡ node.after)) }
     ensures steps { steps.new ≤ steps.old + 2 }
 {
     match before {

@@ -6,7 +6,7 @@ ghost use Rattle.view_types.specs.declared.extents.Extent.{Extent};
 ghost use Rattle.view_types.specs.Intervals.{Ascend, end_of};
 ghost use Rattle.extent_alloc.specs.declared.pool.Link.{Link};
 ghost use Rattle.extent_alloc.specs.Chain.{Links};
-ghost use Rattle.extent_alloc.specs.Chains.{extents_of, times, unwind};
+ghost use Rattle.extent_alloc.specs.Chains.{around, extents_of, times, unwind};
 ghost use Rattle.extent_alloc.specs.Cuts.{IsCutAt, ending_at, starting_at, joined_in};
 ghost use Rattle.extent_alloc.specs.Free.{kept};
 
@@ -62,7 +62,7 @@ pub(crate) fn replace<L: Ledger>(
 )
     requires in_use { 0 < times at chain.old.links }
     requires spare { 0 < chain.old.spare }
-    ensures extents { (done rest : List Link) (e : Extent) → chain.old.links ≡ unwind done (record { at = at; extent = e } ∷ rest)
+    ensures extents { (done rest : List Link) (e : Extent) → chain.old.links ≡ around done at e rest
         → extents_of chain.new.links ≡ unwind (extents_of done) (kept left (kept right (extents_of rest))) }
     ensures spare { chain.old.spare ≤ chain.new.spare + 1 }
     ensures steps { steps.new ≤ steps.old + 8 }
@@ -118,7 +118,8 @@ pub(crate) fn put<L: Ledger>(
     requires inside { end_of extent ≤ whole }
     requires cut { IsCutAt chain.old.links extent.start cut }
     requires spare { 0 < chain.old.spare }
-    ensures extents { (done rest : List Link) → chain.old.links ≡ unwind done rest → cut.before ≡ slice_get done 0 → cut.after ≡ slice_get rest 0
+    ensures extents { (done rest : List Link) → chain.old.links ≡ unwind done rest → cut.before ≡ slice_get done 0
+        → cut.after ≡ slice_get rest 0
         → extents_of chain.new.links ≡ joined_in (extents_of done) extent (extents_of rest) }
     ensures spare { chain.old.spare ≤ chain.new.spare + 1 }
     ensures steps { steps.new ≤ steps.old + 8 }

@@ -1,7 +1,8 @@
 //! The free extents of a whole.
 
 ghost use Rattle.std.specs.Prelude.{◌≡◌, ◌+◌, ◌<◌, ◌≤◌, [], ◌∷◌, length, slice_get, IfSome, IfNone, IfOk, OnOk};
-ghost use Rattle.view_types.specs.Intervals.{AllFree, NoneFree, AreMaximal, IsFirstFit, NoneFits, is_free, without_range, with_range, greatest_aligned};
+ghost use Rattle.view_types.specs.Intervals.{AllFree, NoneFree, AreMaximal, IsFirstFit, NoneFits};
+ghost use Rattle.view_types.specs.Intervals.{is_free, without_range, with_range, greatest_aligned};
 ghost use Rattle.extent_alloc.specs.Chains.{extents_of};
 ghost use Rattle.extent_alloc.specs.Free.{kept};
 
@@ -38,7 +39,8 @@ impl Model for Extents {
 impl Extents {
     /// A whole of `len` bytes, all of it free: one extent from 0, or none where `len` is 0.
     pub fn whole(alloc: Global, len: u64) -> Result<Extents, AllocError>
-        ensures { IfOk result (λ free. free ≡ record { extents = kept (record { start = 0; len = len }) []; whole = len; spare = 0 }) }
+        ensures { IfOk result (λ free. free ≡
+            record { extents = kept (record { start = 0; len = len }) []; whole = len; spare = 0 }) }
     {
         let mut chain = Chain::new(alloc);
         if len == 0 {
@@ -126,7 +128,8 @@ impl Extents {
         requires some { 0 < len }
         requires free { AllFree (is_free self.old.extents) start len }
         requires spare { 0 < self.old.spare }
-        ensures carved { AreMaximal self.old.whole (without_range (is_free self.old.extents) start len) self.new.extents }
+        ensures carved { AreMaximal self.old.whole (without_range (is_free self.old.extents) start len)
+            self.new.extents }
         ensures whole { self.new.whole ≡ self.old.whole }
         ensures spare { self.old.spare ≤ self.new.spare + 1 }
         ensures steps { steps.new ≤ steps.old + length self.old.extents + 8 }
@@ -145,26 +148,22 @@ impl Extents {
         replace(&mut self.chain, found.at, left, right, steps);
     }
 
-    /// Gives a range that is not free back to the free space, and joins it with the extents that it touches. It walks to
-    /// the range's place from the first extent on.
+    /// Gives a range that is not free back to the free space, and joins it with the extents that it touches. It walks
+    /// to the range's place from the first extent on.
     pub fn release<L: Ledger>(&mut self, start: u64, len: u64, steps: &mut Steps<L>)
         requires some { 0 < len }
         requires inside { start + len ≤ self.old.whole }
         requires taken { NoneFree (is_free self.old.extents) start len }
         requires spare { 0 < self.old.spare }
-        ensures released { AreMaximal self.old.whole (with_range (is_free self.old.extents) start len) self.new.extents }
+        ensures released { AreMaximal self.old.whole (with_range (is_free self.old.extents) start len)
+            self.new.extents }
         ensures whole { self.new.whole ≡ self.old.whole }
         ensures spare { self.old.spare ≤ self.new.spare + 1 }
         ensures steps { steps.new ≤ steps.old + length self.old.extents + 8 }
     {
         let cut = cut_at(&self.chain, self.whole, start, steps);
-        put(
-            &mut self.chain,
-            self.whole,
-            cut,
-            Extent { start, len },
-            steps,
-        );
+        let range = Extent { start, len };
+        put(&mut self.chain, self.whole, cut, range, steps);
     }
 
     /// The same extents, whole and room, in memory of its own.

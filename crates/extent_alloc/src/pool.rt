@@ -1,6 +1,7 @@
 //! A pool of nodes in one vector. Those that are spare are chained through it.
 
-ghost use Rattle.std.specs.Prelude.{◌≡◌, ◌≢◌, ℕ, ◌+◌, ◌<◌, ◌^◌, [], ◌∷◌, ◌++◌, drop, length, slice_get, slice_set, Some, IfOk, OnErr, OnOk};
+ghost use Rattle.std.specs.Prelude.{◌≡◌, ◌≢◌, ℕ, ◌+◌, ◌<◌, ◌^◌, [], drop, length, slice_get, slice_set};
+ghost use Rattle.std.specs.Prelude.{Some, IfOk, OnErr, OnOk};
 ghost use Rattle.extent_alloc.specs.Chains.{first_at, times};
 
 use crate::steps::Steps;
@@ -135,7 +136,8 @@ impl Pool {
         ensures given { OnOk result (first_at self.new.idle ≡ Some (length self.old.nodes)) }
         ensures rest { OnOk result (drop 1 self.new.idle ≡ self.old.idle) }
         ensures len { OnOk result (length self.new.nodes ≡ length self.old.nodes + 1) }
-        ensures others { OnOk result ((k : ℕ) → k < length self.old.nodes → slice_get self.new.nodes k ≡ slice_get self.old.nodes k) }
+        ensures others { OnOk result ((k : ℕ) → k < length self.old.nodes
+            → slice_get self.new.nodes k ≡ slice_get self.old.nodes k) }
         ensures err { OnErr result (self.new ≡ self.old) }
     {
         let at = self.nodes.len();

@@ -5,8 +5,8 @@ ghost use Rattle.std.specs.Prelude.{◌≡◌, ◌+◌, ◌<◌};
 use std::marker::Model;
 use std::sync::ledger::{Blank, Book, Ledger, Share};
 
-/// How many steps were taken. It takes no bytes and no time, and only `tick` changes it. A step is one call of the pool of
-/// nodes.
+/// How many steps were taken. It takes no bytes and no time, and only `tick` changes it. A step is one call of the
+/// pool of nodes.
 #[derive(Drop)]
 pub struct Steps<L: Ledger> {
     book: Book<L>,

@@ -1,6 +1,6 @@
 -- Lists of intervals, and the offsets that are in them.
-use Rattle.std.proofs.Common.{◌≡◌, ◌⊎◌, inl, inr, ℕ, ◌+◌, ◌-◌, ◌≤◌, ◌<◌, Bool, true, false, not, ◌&&◌, List, [], ◌∷◌, refl, sym, ap, ◌∙◌, subst, arith}
-use Rattle.std.specs.Prelude.{◌||◌, nat_le, nat_lt}
+use Rattle.std.proofs.Common.{◌≡◌, ◌⊎◌, inl, inr, ℕ, ◌+◌, ◌≤◌, ◌<◌, Bool, true, false, List, [], ◌∷◌, refl, sym, ◌∙◌, arith}
+use Rattle.std.specs.Prelude.{◌||◌}
 use Rattle.std.proofs.lemmas.Bool.{cases_lt}
 use Rattle.std.proofs.lemmas.Bool.Decides.{nat_tests}
 use Rattle.view_types.specs.declared.extents.Extent.{Extent}
@@ -15,19 +15,12 @@ within_below s n o a = grind (arith, nat_tests)
 pub within_above : (s n o : ℕ) → s + n ≤ o → is_within s n o ≡ false
 within_above s n o a = grind (arith, nat_tests)
 
--- nothing is free below the first extent, and nothing from the whole's end on
+-- nothing is free below the first extent
 pub none_below : (from whole : ℕ) (es : List Extent) (o : ℕ) → Ascend from whole es → o < from → is_free es o ≡ false
 none_below from whole [] o up lt = refl
 none_below from whole (e ∷ es) o up lt =
     let here : is_within e.start e.len o ≡ false = within_below e.start e.len o (omega (arith, up.0)) in
     let there : is_free es o ≡ false = none_below (end_of e + 1) whole es o up.3 (omega (arith, up.0)) in
-    λ i. here i || there i
-
-pub none_above : (from whole : ℕ) (es : List Extent) (o : ℕ) → Ascend from whole es → whole ≤ o → is_free es o ≡ false
-none_above from whole [] o up ge = refl
-none_above from whole (e ∷ es) o up ge =
-    let here : is_within e.start e.len o ≡ false = within_above e.start e.len o (omega (arith, up.2)) in
-    let there : is_free es o ≡ false = none_above (end_of e + 1) whole es o up.3 ge in
     λ i. here i || there i
 
 pub ascend_from : (from a whole : ℕ) (es : List Extent) → from ≤ a → Ascend a whole es → Ascend from whole es

@@ -1,10 +1,10 @@
 -- A set of offsets has one list of maximal intervals, and each of them is maximal.
-use Rattle.std.proofs.Common.{◌≡◌, ◌⊎◌, inl, inr, ℕ, zero, suc, ◌+◌, ◌≤◌, ◌<◌, Bool, true, false, List, [], ◌∷◌, Option, Some, None, slice_get, refl, sym, ap, ◌∙◌, subst, arith}
+use Rattle.std.proofs.Common.{◌≡◌, inl, inr, ℕ, zero, suc, ◌+◌, ◌≤◌, ◌<◌, Bool, true, false, List, [], ◌∷◌, Some, slice_get, refl, sym, ◌∙◌, subst, arith}
 use Rattle.std.specs.Prelude.{◌||◌}
 use Rattle.std.proofs.lemmas.Bool.{cases_lt}
 use Rattle.view_types.specs.declared.extents.Extent.{Extent}
-use Rattle.view_types.specs.Intervals.{end_of, is_within, is_free, AllFree, Ascend, AreMaximal, IsMaximal}
-use Rattle.view_types.proofs.Intervals.{within_yes, within_above, none_below, free_later, or_true}
+use Rattle.view_types.specs.Intervals.{end_of, is_within, is_free, Ascend, AreMaximal, IsMaximal}
+use Rattle.view_types.proofs.Intervals.{within_yes, none_below, free_later, or_true}
 
 -- the first offset of a list is free, and so are those of its first extent
 free_in_first : (e : Extent) (es : List Extent) (o : ℕ) → e.start ≤ o → o < end_of e → is_free (e ∷ es) o ≡ true

@@ -6,7 +6,8 @@ ghost use Rattle.view_types.specs.Intervals.{AllFree, AreMaximal, IsMaximal, Non
 
 /// A set of offsets has one list of maximal intervals.
 pub fn one_list()
-    ensures { (whole : ℕ) (free : ℕ → Bool) (es fs : List Extent) → AreMaximal whole free es → AreMaximal whole free fs → es ≡ fs }
+    ensures { (whole : ℕ) (free : ℕ → Bool) (es fs : List Extent) → AreMaximal whole free es
+        → AreMaximal whole free fs → es ≡ fs }
 {}
 
 /// Each extent of the list is a maximal interval: its offsets are free, and those next to it are not.
@@ -17,8 +18,10 @@ pub fn each_maximal()
 
 /// A length that is a multiple of the alignment fits exactly where it is at most the greatest aligned length.
 pub fn greatest_fits()
-    ensures fits { (whole : ℕ) (free : ℕ → Bool) (es : List Extent) (len align : ℕ) → AreMaximal whole free es → 0 < len → 0 < align
+    ensures fits { (whole : ℕ) (free : ℕ → Bool) (es : List Extent) (len align : ℕ) → AreMaximal whole free es → 0 < len
+        → 0 < align
         → len ≤ greatest_aligned align es → (at : ℕ) × (at % align ≡ 0) × AllFree free at len }
-    ensures none { (whole : ℕ) (free : ℕ → Bool) (es : List Extent) (len align : ℕ) → AreMaximal whole free es → 0 < len → 0 < align
+    ensures none { (whole : ℕ) (free : ℕ → Bool) (es : List Extent) (len align : ℕ) → AreMaximal whole free es → 0 < len
+        → 0 < align
         → len % align ≡ 0 → greatest_aligned align es < len → NoneFits free len align }
 {}

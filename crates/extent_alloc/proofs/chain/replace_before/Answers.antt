@@ -1,4 +1,4 @@
-use Rattle.std.proofs.Common.{◌≡◌, sym, subst, Some}
+use Rattle.std.proofs.Common.{sym, subst, Some}
 use Rattle.extent_alloc.specs.Changes.{ChangesAt, before_as}
 use Rattle.extent_alloc.proofs.Changes.{changes_set}
 use Rattle.extent_alloc.proofs.chain.replace_before.Goals as goal

@@ -1,4 +1,4 @@
-use Rattle.std.proofs.Common.{◌≡◌, ◌+◌, ◌∷◌, [], Some, length, sym, ap, ◌∙◌, subst, refl, arith}
+use Rattle.std.proofs.Common.{◌≡◌, [], Some, sym, ap, subst, refl, arith}
 use Rattle.extent_alloc.specs.declared.pool.Node.{Node}
 use Rattle.extent_alloc.specs.Chains.{first_at}
 use Rattle.extent_alloc.specs.Cuts.{IsPassing}

@@ -1,5 +1,4 @@
-use Rattle.std.proofs.Common.{◌≡◌, ◌<◌, ◌∷◌, [], List, Some, sym, ap, ◌∙◌, subst, refl, arith}
-use Rattle.view_types.specs.declared.extents.Extent.{Extent}
+use Rattle.std.proofs.Common.{◌≡◌, ◌<◌, ◌∷◌, [], sym, ap, ◌∙◌, subst, refl, arith}
 use Rattle.extent_alloc.specs.declared.pool.Link.{Link}
 use Rattle.extent_alloc.specs.Chains.{extents_of, times, unwind}
 use Rattle.extent_alloc.specs.Free.{kept}

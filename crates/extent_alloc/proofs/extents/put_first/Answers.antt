@@ -1,4 +1,4 @@
-use Rattle.std.proofs.Common.{◌≡◌, [], refl}
+use Rattle.std.proofs.Common.{[], refl}
 use Rattle.extent_alloc.proofs.extents.put_first.Goals as goal
 
 pub returns-clause-extents : goal.returns-clause-extents

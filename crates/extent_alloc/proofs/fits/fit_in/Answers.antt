@@ -1,6 +1,5 @@
 use Rattle.std.proofs.Common.{◌≡◌, sym, subst, IfNone, arith}
 use Rattle.view_types.proofs.Multiples.{IsNextMultiple, next_multiple}
-use Rattle.view_types.specs.Intervals.{IsInside}
 use Rattle.extent_alloc.specs.Fits.{IsFitIn, NoFitIn}
 use Rattle.std.specs.Int.{next_multiple_of}
 use Rattle.extent_alloc.proofs.fits.fit_in.Goals as goal

@@ -1,4 +1,4 @@
-use Rattle.std.proofs.Common.{◌≡◌, refl, ap, ◌∙◌, subst, sym}
+use Rattle.std.proofs.Common.{refl, ap, ◌∙◌, subst, sym}
 use Rattle.extent_alloc.specs.Chain.{Links}
 use Rattle.extent_alloc.specs.Pool.{Nodes}
 use Rattle.extent_alloc.specs.declared.chain.Chain.TheInside.{Inside}

@@ -1,4 +1,4 @@
-use Rattle.std.proofs.Common.{◌≡◌, ◌<◌, sym, ap, ◌∙◌, subst, slice_get, Some, arith}
+use Rattle.std.proofs.Common.{◌≡◌, ◌<◌, sym, ap, ◌∙◌, subst, slice_get, Some}
 use Rattle.extent_alloc.specs.Chain.{Links}
 use Rattle.extent_alloc.specs.Chains.{first_at, times}
 use Rattle.extent_alloc.specs.declared.pool.Node.{Node}

@@ -1,4 +1,4 @@
-use Rattle.std.proofs.Common.{◌≡◌, ◌<◌, ◌-◌, [], List, length, inl, inr, sym, ap, ◌∙◌, subst, refl, arith}
+use Rattle.std.proofs.Common.{◌<◌, ◌-◌, [], List, length, inl, inr, sym, ap, ◌∙◌, subst, arith}
 use Rattle.extent_alloc.specs.declared.pool.Link.{Link}
 use Rattle.extent_alloc.specs.declared.chain.Chain.TheInside.{Inside}
 use Rattle.extent_alloc.specs.Chain.{Links}

@@ -1,4 +1,4 @@
-use Rattle.std.proofs.Common.{◌≡◌, ◌<◌, [], sym, ap, ◌∙◌, subst, refl}
+use Rattle.std.proofs.Common.{◌<◌, [], sym, ap, ◌∙◌, subst, refl}
 use Rattle.extent_alloc.specs.Chain.{Links}
 use Rattle.extent_alloc.specs.Chains.{times}
 use Rattle.extent_alloc.proofs.Unwinding.{Cut, cut_from}

@@ -1,9 +1,8 @@
-use Rattle.std.proofs.Common.{◌≡◌, ◌∷◌, sym, ap, ◌∙◌, subst, arith}
-use Rattle.view_types.specs.Intervals.{Ascend}
+use Rattle.std.proofs.Common.{sym, ◌∙◌, subst}
 use Rattle.extent_alloc.specs.Fits.{IsLeft}
 use Rattle.extent_alloc.specs.Chains.{extents_of}
 use Rattle.extent_alloc.specs.Free.{FreeSpace}
-use Rattle.extent_alloc.proofs.Fitting.{all_left, left_others, first_fit, none_left}
+use Rattle.extent_alloc.proofs.Fitting.{all_left, left_others, first_fit}
 use Rattle.extent_alloc.proofs.extents.Extents.first_fit.Goals as goal
 
 pub loop-extent-init : goal.loop-extent-init

@@ -1,5 +1,4 @@
-use Rattle.std.proofs.Common.{◌≡◌, ◌+◌, ◌<◌, ◌∷◌, max, sym, ap, ◌∙◌, subst, arith}
-use Rattle.view_types.specs.declared.extents.Extent.{Extent}
+use Rattle.std.proofs.Common.{◌≡◌, ◌+◌, ◌∷◌, sym, ap, ◌∙◌, subst, arith}
 use Rattle.view_types.specs.Intervals.{Ascend, greatest_aligned, end_of}
 use Rattle.view_types.proofs.Intervals.{ascend_from}
 use Rattle.extent_alloc.specs.Chains.{extents_of}

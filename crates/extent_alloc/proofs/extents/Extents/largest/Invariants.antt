@@ -1,4 +1,4 @@
-use Rattle.std.proofs.Common.{◌≡◌, ◌≤◌, ◌<◌, ◌^◌, max}
+use Rattle.std.proofs.Common.{◌≡◌, ◌<◌, ◌^◌, max}
 use Rattle.view_types.specs.Intervals.{Ascend, greatest_aligned}
 use Rattle.extent_alloc.proofs.extents.Extents.largest.Given as goal
 

@@ -1,4 +1,4 @@
-use Rattle.std.proofs.Common.{◌≡◌, ap, ◌∙◌, subst, arith}
+use Rattle.std.proofs.Common.{ap, ◌∙◌, subst, arith}
 use Rattle.view_types.specs.Intervals.{NoneFree, AreMaximal, is_free, with_range}
 use Rattle.extent_alloc.specs.Chains.{extents_of}
 use Rattle.extent_alloc.specs.Free.{FreeSpace}

@@ -1,6 +1,5 @@
-use Rattle.std.proofs.Common.{◌≡◌, sym, ap, ◌∙◌, subst, arith}
+use Rattle.std.proofs.Common.{sym, ap, ◌∙◌, subst, arith}
 use Rattle.view_types.specs.Intervals.{Ascend}
-use Rattle.extent_alloc.specs.Chain.{Links}
 use Rattle.extent_alloc.specs.Chains.{extents_of}
 use Rattle.extent_alloc.specs.Free.{FreeSpace}
 use Rattle.extent_alloc.proofs.extents.Extents.reserve.Goals as goal

@@ -1,4 +1,4 @@
-use Rattle.std.proofs.Common.{◌≡◌, ◌∙◌, ap, length, arith, ◌+◌, Some, slice_get, refl, drop}
+use Rattle.std.proofs.Common.{◌≡◌, ◌∙◌, ap, length, arith, slice_get, refl, drop}
 use Rattle.std.proofs.lemmas.List.{length-set}
 use Rattle.extent_alloc.specs.Pool.{Nodes}
 use Rattle.extent_alloc.specs.Chains.{first_at, times}

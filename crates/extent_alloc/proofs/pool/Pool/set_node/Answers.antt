@@ -1,4 +1,4 @@
-use Rattle.std.proofs.Common.{◌≡◌, ◌∙◌, ap, sym, length, slice_set, arith}
+use Rattle.std.proofs.Common.{◌≡◌, ◌∙◌, ap, length, slice_set, arith}
 use Rattle.std.proofs.lemmas.List.{length-set}
 use Rattle.extent_alloc.specs.Pool.{Nodes}
 use Rattle.extent_alloc.specs.Chains.{links_from, times}
