@@ -51,8 +51,8 @@ impl Extents {
         Ok(Extents { chain, whole: len })
     }
 
-    /// Makes room for `n` more extents, so that as many calls of `carve` and `release` have what they need. The extents
-    /// stay as they are, also where memory is refused; some of the room may be there then.
+    /// Makes room for `n` more extents, so that as many calls of `carve` and `release` have what they need. The
+    /// extents stay as they are, also where memory is refused; some of the room may be there then.
     pub fn reserve(&mut self, n: usize) -> Result<(), AllocError>
         ensures spare { OnOk result (n ≤ self.new.spare) }
         ensures grows { self.old.spare ≤ self.new.spare }
@@ -87,8 +87,8 @@ impl Extents {
         self.chain.iter()
     }
 
-    /// The `i`-th free extent by ascending start, counted from 0, in a time that is linear in `i`. `None` exactly where
-    /// there are not so many.
+    /// The `i`-th free extent by ascending start, counted from 0, in a time that is linear in `i`. `None` exactly
+    /// where there are not so many.
     pub fn get(&self, i: usize) -> Option<Extent>
         ensures { result ≡ slice_get self.now.extents i }
     {

@@ -10,8 +10,8 @@ use std::marker::Model;
 use std::sync::ledger::Ledger;
 use view_types::Extent;
 
-/// A free extent, and the nodes of the extents before and after it. Of a spare node only `after` counts: it is the next
-/// spare one.
+/// A free extent, and the nodes of the extents before and after it. Of a spare node only `after` counts: it is the
+/// next spare one.
 #[derive(Clone, Copy)]
 pub(crate) struct Node {
     pub extent: Extent,

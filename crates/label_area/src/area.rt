@@ -121,7 +121,8 @@ impl Area {
         slot < self.geometry.slots && !is_free(&self.free, slot)
     }
 
-    /// The live label in a slot. `None` exactly where it has none: the slot is free, or junk, or not one of the area's.
+    /// The live label in a slot. `None` exactly where it has none: the slot is free, or junk, or not one of the
+    /// area's.
     pub fn label(&self, slot: u32) -> Option<&Label>
         ensures { option_copied result ≡ get self.now.live slot }
     {

@@ -28,9 +28,9 @@ const BITMAP: usize = 512;
 impl Area {
     ghost use Rattle.std.specs.FinMap.{get};
 
-    /// Frees slots in use, whether they have a label or are junk. It writes the index block that isn't the current one, with
-    /// the next sequence number, and nothing else. A stop at any moment leaves the area as it stood before, or without
-    /// the labels in these slots.
+    /// Frees slots in use, whether they have a label or are junk. It writes the index block that isn't the current
+    /// one, with the next sequence number, and nothing else. A stop at any moment leaves the area as it stood before,
+    /// or without the labels in these slots.
     pub fn free<R: Rig>(&mut self, rig: &mut R, slots: &[u32]) -> Result<(), Failed>
         requires used { All (λ slot. IsTrue (is_used self.old slot)) slots.now }
         requires sized { IsTold R.Shown rig.old → IsSized self.old (R.areas rig.old) }
@@ -38,8 +38,11 @@ impl Area {
         ensures kept { OnErr result (self.new ≡ self.old) }
         ensures dimm { self.new.dimm ≡ self.old.dimm }
         ensures geometry { self.new.geometry ≡ self.old.geometry }
-        ensures shown { IsTold R.Shown rig.old → IsShown self.old (R.areas rig.old) → OnOk result (IsShown self.new (R.areas rig.new)) }
-        ensures any_moment { IsTold R.Shown rig.old → IsShown self.old (R.areas rig.old) → LeavesOnly R.Shown rig.old rig.new (LeftByFlip (R.areas rig.old) (R.said rig.old) self.old.dimm (after_free self.old slots.now)) }
+        ensures shown { IsTold R.Shown rig.old → IsShown self.old (R.areas rig.old)
+            → OnOk result (IsShown self.new (R.areas rig.new)) }
+        ensures any_moment { IsTold R.Shown rig.old → IsShown self.old (R.areas rig.old)
+            → LeavesOnly R.Shown rig.old rig.new (LeftByFlip (R.areas rig.old) (R.said rig.old) self.old.dimm
+            (after_free self.old slots.now)) }
         ensures writes_only { WritesTo self.old.dimm R.Shown rig.old rig.new }
         ensures cause { FailsAt self.old.dimm R.Shown rig.old rig.new (is_err result) }
         ensures reads { R.reads rig.new ≡ R.reads rig.old }
@@ -53,10 +56,10 @@ impl Area {
         Ok(())
     }
 
-    /// Puts a label into the least free slot, with the number of that slot, which it answers, and frees the slot of a label
-    /// that it replaces. It writes the slot and then the index block that isn't the current one, with the next sequence
-    /// number, and nothing else. A stop at any moment leaves the area as it stood before, or with the label and without the
-    /// one that it replaces.
+    /// Puts a label into the least free slot, with the number of that slot, which it answers, and frees the slot of a
+    /// label that it replaces. It writes the slot and then the index block that isn't the current one, with the next
+    /// sequence number, and nothing else. A stop at any moment leaves the area as it stood before, or with the label
+    /// and without the one that it replaces.
     pub fn put<R: Rig>(
         &mut self,
         rig: &mut R,
@@ -73,8 +76,11 @@ impl Area {
         ensures kept { OnErr result (self.new ≡ self.old) }
         ensures dimm { self.new.dimm ≡ self.old.dimm }
         ensures geometry { self.new.geometry ≡ self.old.geometry }
-        ensures shown { IsTold R.Shown rig.old → IsShown self.old (R.areas rig.old) → OnOk result (IsShown self.new (R.areas rig.new)) }
-        ensures any_moment { IsTold R.Shown rig.old → IsShown self.old (R.areas rig.old) → LeavesOnly R.Shown rig.old rig.new (LeftByFlip (R.areas rig.old) (R.said rig.old) self.old.dimm (after_put self.old label.now replaces)) }
+        ensures shown { IsTold R.Shown rig.old → IsShown self.old (R.areas rig.old)
+            → OnOk result (IsShown self.new (R.areas rig.new)) }
+        ensures any_moment { IsTold R.Shown rig.old → IsShown self.old (R.areas rig.old)
+            → LeavesOnly R.Shown rig.old rig.new (LeftByFlip (R.areas rig.old) (R.said rig.old) self.old.dimm
+            (after_put self.old label.now replaces)) }
         ensures writes_only { WritesTo self.old.dimm R.Shown rig.old rig.new }
         ensures cause { FailsAt self.old.dimm R.Shown rig.old rig.new (is_err result) }
         ensures reads { R.reads rig.new ≡ R.reads rig.old }
@@ -121,8 +127,10 @@ impl Area {
     fn keep(&mut self, place: Place, seq: u32, free: &[u8; BITMAP], freed: &[u32])
         requires freed { All (λ slot. slot < self.old.geometry.slots) freed.now }
         requires seq { IsSeq seq }
-        requires bits { (k : ℕ) → k < self.old.geometry.slots → is_among freed.now k ≡ false → is_free_in self.old.free k ≡ false → is_free_in free.now k ≡ false }
-        ensures rest { self.new ≡ record self.old { place = place; seq = seq; free = self.new.free; live = self.new.live } }
+        requires bits { (k : ℕ) → k < self.old.geometry.slots → is_among freed.now k ≡ false
+            → is_free_in self.old.free k ≡ false → is_free_in free.now k ≡ false }
+        ensures rest { self.new
+            ≡ record self.old { place = place; seq = seq; free = self.new.free; live = self.new.live } }
         ensures bits { (k : ℕ) → k < self.old.geometry.slots → is_free_in self.new.free k ≡ is_free_in free.now k }
         ensures live { (k : ℕ) → get self.new.live k ≡ (if is_among freed.now k then None else get self.old.live k) }
     {
@@ -162,7 +170,9 @@ fn replaced(replaces: &Option<u32>) -> &[u32]
 /// Takes the labels of some slots away.
 fn clear(labels: &mut [Option<Label>], freed: &[u32])
     requires { All (λ slot. slot < length labels.old) freed.now }
-    ensures labels { (k : ℕ) → slice_index_or labels.new k None ≡ (if is_among freed.now k then None else slice_index_or labels.old k None) }
+    ensures labels { (k : ℕ)
+        → slice_index_or labels.new k None
+        ≡ (if is_among freed.now k then None else slice_index_or labels.old k None) }
     ensures len { length labels.new ≡ length labels.old }
 {
     for slot in freed {
@@ -182,9 +192,12 @@ fn write_next<R: Rig>(
     requires geometry { IsGeometry geometry.now }
     requires label { geometry.now.label ≡ 256 }
     requires seq { IsSeq seq }
-    requires sized { IsTold R.Shown rig.old → size_in (R.areas rig.old) dimm ≡ Some (2 * geometry.now.block + geometry.now.slots * geometry.now.label) }
-    ensures written { WritesBytes R.Shown rig.old rig.new dimm (place_offset geometry.now place) (block_text place seq geometry.now free.now) result }
-    ensures stops { WriteLeaves R.Shown rig.old rig.new dimm (place_offset geometry.now place) (block_text place seq geometry.now free.now) result }
+    requires sized { IsTold R.Shown rig.old
+        → size_in (R.areas rig.old) dimm ≡ Some (2 * geometry.now.block + geometry.now.slots * geometry.now.label) }
+    ensures written { WritesBytes R.Shown rig.old rig.new dimm (place_offset geometry.now place)
+        (block_text place seq geometry.now free.now) result }
+    ensures stops { WriteLeaves R.Shown rig.old rig.new dimm (place_offset geometry.now place)
+        (block_text place seq geometry.now free.now) result }
     ensures writes_only { WritesTo dimm R.Shown rig.old rig.new }
     ensures cause { FailsAt dimm R.Shown rig.old rig.new (is_err result) }
     ensures reads { R.reads rig.new ≡ R.reads rig.old }
@@ -210,9 +223,12 @@ fn write_flip<R: Rig>(
     requires label { geometry.now.label ≡ 256 }
     requires slot { slot < geometry.now.slots }
     requires seq { IsSeq seq }
-    requires sized { IsTold R.Shown rig.old → size_in (R.areas rig.old) dimm ≡ Some (2 * geometry.now.block + geometry.now.slots * geometry.now.label) }
-    ensures both { WritesBoth R.Shown rig.old rig.new dimm (slot_offset geometry.now slot) text.now (place_offset geometry.now place) (block_text place seq geometry.now free.now) result }
-    ensures any_moment { LeavesTwo R.Shown rig.old rig.new dimm (slot_offset geometry.now slot) text.now (place_offset geometry.now place) (block_text place seq geometry.now free.now) }
+    requires sized { IsTold R.Shown rig.old
+        → size_in (R.areas rig.old) dimm ≡ Some (2 * geometry.now.block + geometry.now.slots * geometry.now.label) }
+    ensures both { WritesBoth R.Shown rig.old rig.new dimm (slot_offset geometry.now slot) text.now
+        (place_offset geometry.now place) (block_text place seq geometry.now free.now) result }
+    ensures any_moment { LeavesTwo R.Shown rig.old rig.new dimm (slot_offset geometry.now slot) text.now
+        (place_offset geometry.now place) (block_text place seq geometry.now free.now) }
     ensures writes_only { WritesTo dimm R.Shown rig.old rig.new }
     ensures cause { FailsAt dimm R.Shown rig.old rig.new (is_err result) }
     ensures reads { R.reads rig.new ≡ R.reads rig.old }

@@ -64,9 +64,9 @@ impl From<rig_trait::Failed> for InitFault {
 }
 
 impl Area {
-    /// Initialises the area of a module, which has to be Uninit, and answers the number of its slots. It writes the first
-    /// index block with the sequence number 3 and then the second with 2, both with all slots free, and takes no memory.
-    /// A stop at any moment leaves the area Uninit, or Ready without labels.
+    /// Initialises the area of a module, which has to be Uninit, and answers the number of its slots. It writes the
+    /// first index block with the sequence number 3 and then the second with 2, both with all slots free, and takes no
+    /// memory. A stop at any moment leaves the area Uninit, or Ready without labels.
     pub fn init<R: Rig>(rig: &mut R, dimm: u32) -> Result<u32, InitFault>
         ensures answer { IsTold R.Shown rig.old → Initialises dimm (R.areas rig.old) result }
         ensures written { IsTold R.Shown rig.old → OnOk result (R.areas rig.new ≡ initialised dimm (R.areas rig.old)) }
@@ -74,8 +74,10 @@ impl Area {
 
         // Whatever the answer, and by a stop at any moment.
         ensures in_order { IsTold R.Shown rig.old → IsInOrder dimm (R.areas rig.old) (R.areas rig.new) }
-        ensures any_moment { IsTold R.Shown rig.old → LeavesOnly R.Shown rig.old rig.new (LeftByInit (R.areas rig.old) (R.said rig.old) dimm) }
-        ensures kept { IsTold R.Shown rig.old → area_kind (get (R.areas rig.old) dimm) ≢ Uninit → R.areas rig.new ≡ R.areas rig.old }
+        ensures any_moment { IsTold R.Shown rig.old
+            → LeavesOnly R.Shown rig.old rig.new (LeftByInit (R.areas rig.old) (R.said rig.old) dimm) }
+        ensures kept { IsTold R.Shown rig.old → area_kind (get (R.areas rig.old) dimm) ≢ Uninit
+            → R.areas rig.new ≡ R.areas rig.old }
         ensures writes_only { WritesTo dimm R.Shown rig.old rig.new }
 
         // Where it refuses to, it has written nothing, at every rig.
@@ -91,7 +93,8 @@ impl Area {
 /// The layout of an area that is Uninit.
 fn uninit_layout<R: Rig>(rig: &mut R, dimm: u32) -> Result<Geometry, InitFault>
     ensures uninit { IsTold R.Shown rig.old → OnOk result (area_kind (get (R.areas rig.old) dimm) ≡ Uninit) }
-    ensures layout { IsTold R.Shown rig.old → IfOk result (λ geometry. layout_of (get (R.areas rig.old) dimm) ≡ Some geometry) }
+    ensures layout { IsTold R.Shown rig.old
+        → IfOk result (λ geometry. layout_of (get (R.areas rig.old) dimm) ≡ Some geometry) }
     ensures refused { IsTold R.Shown rig.old → IfErr result (λ fault. Initialises dimm (R.areas rig.old) (Err fault)) }
     ensures geometry { IfOk result IsGeometry }
     ensures label { IfOk result (λ geometry. geometry.label ≡ 256) }
@@ -112,8 +115,8 @@ fn uninit_layout<R: Rig>(rig: &mut R, dimm: u32) -> Result<Geometry, InitFault>
     }
 }
 
-/// What stands in an area of `size` bytes. It reads the three windows in which a signed index block may stand, each of at
-/// most 4,096 bytes.
+/// What stands in an area of `size` bytes. It reads the three windows in which a signed index block may stand, each of
+/// at most 4,096 bytes.
 fn read_kinds<R: Rig>(
     rig: &mut R,
     dimm: u32,
@@ -122,7 +125,8 @@ fn read_kinds<R: Rig>(
 ) -> Result<BlockKinds, rig_trait::Failed>
     requires layouts { AreLayouts size layouts.now }
     requires size { IsTold R.Shown rig.old → size_in (R.areas rig.old) dimm ≡ Some size }
-    ensures kinds { IsTold R.Shown rig.old → IfOk result (λ kinds. kinds ≡ kinds_in layouts.now (area (R.areas rig.old) dimm)) }
+    ensures kinds { IsTold R.Shown rig.old
+        → IfOk result (λ kinds. kinds ≡ kinds_in layouts.now (area (R.areas rig.old) dimm)) }
     ensures reads_only { Reads R.Shown rig.old rig.new }
     ensures cause { FailsAt dimm R.Shown rig.old rig.new (is_err result) }
 {
@@ -147,7 +151,8 @@ fn read_kind<R: Rig>(
     requires geometry { IsGeometry geometry.now }
     requires fits { FitsIn size geometry.now }
     requires size { IsTold R.Shown rig.old → size_in (R.areas rig.old) dimm ≡ Some size }
-    ensures kind { IsTold R.Shown rig.old → IfOk result (λ kind. kind ≡ kind_at geometry.now (area (R.areas rig.old) dimm) place) }
+    ensures kind { IsTold R.Shown rig.old
+        → IfOk result (λ kind. kind ≡ kind_at geometry.now (area (R.areas rig.old) dimm) place) }
     ensures reads_only { Reads R.Shown rig.old rig.new }
     ensures cause { FailsAt dimm R.Shown rig.old rig.new (is_err result) }
 {
@@ -168,9 +173,12 @@ fn write_blocks<R: Rig>(
     requires geometry { IsGeometry geometry.now }
     requires label { geometry.now.label ≡ 256 }
     requires layout { IsTold R.Shown rig.old → layout_of (get (R.areas rig.old) dimm) ≡ Some geometry.now }
-    ensures both { IsTold R.Shown rig.old → OnOk result (R.areas rig.new ≡ with_blocks geometry.now (R.areas rig.old) dimm) }
+    ensures both { IsTold R.Shown rig.old
+        → OnOk result (R.areas rig.new ≡ with_blocks geometry.now (R.areas rig.old) dimm) }
     ensures in_order { IsTold R.Shown rig.old → IsInOrder dimm (R.areas rig.old) (R.areas rig.new) }
-    ensures any_moment { IsTold R.Shown rig.old → LeavesOnly R.Shown rig.old rig.new (LeftByTwo (R.areas rig.old) (R.said rig.old) dimm 0 (first_block geometry.now) geometry.now.block (second_block geometry.now)) }
+    ensures any_moment { IsTold R.Shown rig.old
+        → LeavesOnly R.Shown rig.old rig.new (LeftByTwo (R.areas rig.old) (R.said rig.old) dimm 0
+        (first_block geometry.now) geometry.now.block (second_block geometry.now)) }
     ensures writes_only { WritesTo dimm R.Shown rig.old rig.new }
     ensures cause { FailsAt dimm R.Shown rig.old rig.new (is_err result) }
 {

@@ -47,7 +47,8 @@ pub fn run_line<R: Rig>(rig: &mut R, line: &str) -> Result<Option<Reply>, Fault>
 
 /// Initialises the area of a module, which has to be Uninit. It takes no memory.
 fn init_labels<R: Rig>(rig: &mut R, dimm: u32) -> Result<Option<Reply>, Fault>
-    ensures does { (line : List ℕ) → command_in line ≡ Ok (Some (InitLabels dimm)) → Does R.Shown (Line line) rig.old rig.new (outcome_of result) }
+    ensures does { (line : List ℕ) → command_in line ≡ Ok (Some (InitLabels dimm))
+        → Does R.Shown (Line line) rig.old rig.new (outcome_of result) }
     ensures any_moment { LeavesUnsaid R.Shown (Some dimm) rig.old rig.new }
     ensures unwritten { may_have_written result ≡ false → Reads R.Shown rig.old rig.new }
     ensures says_nothing { SaysNothing R.Shown rig.old rig.new }

@@ -73,7 +73,12 @@ fn push_extent(text: &mut String, label: &Label) -> Result<(), AllocError>
 }
 
 fn push_last(text: &mut String, count: usize, area: &Area) -> Result<(), AllocError>
-    ensures { OnOk result (string_bytes text.new ≡ string_bytes text.old ++ last_line count (record { geometry = area.now.geometry; place = area.now.place; seq = area.now.seq })) }
+    ensures { OnOk result (string_bytes text.new
+        ≡ string_bytes text.old ++ last_line count (record {
+          geometry = area.now.geometry;
+          place = area.now.place;
+          seq = area.now.seq;
+        })) }
 {
     write!(text, "ok labels={count} slots={}", area.slots())?;
     writeln!(text, " seq={} place={}", area.seq(), number(area.place()))

@@ -626,7 +626,12 @@ fn lines(rt: HostRuntime) -> Result<(), Fail> {
         ("do", 2, "error words\n"),
     ];
     for (line, status, text) in rows {
-        run(&rt, alloc, &vec![in alloc; 0; 1024]?, Row { line, status, text })?;
+        run(
+            &rt,
+            alloc,
+            &vec![in alloc; 0; 1024]?,
+            Row { line, status, text },
+        )?;
     }
     let mut long = String::from_str(alloc, "do . #")?;
     for _ in 1..4096 {
@@ -655,8 +660,8 @@ fn lines(rt: HostRuntime) -> Result<(), Fail> {
     )
 }
 
-/// The call that fails while an area is initialised, and which of the two index blocks are written then. The calls are the
-/// area's size, three reads, two writes, and the reply.
+/// The call that fails while an area is initialised, and which of the two index blocks are written then. The calls are
+/// the area's size, three reads, two writes, and the reply.
 #[test]
 fn faults_of_init(rt: HostRuntime) -> Result<(), Fail> {
     let alloc = rt.alloc();
@@ -722,8 +727,8 @@ fn nothing_said(rt: HostRuntime) -> Result<(), Fail> {
     Ok(())
 }
 
-/// The bytes of an NFIT, and what is said of a line that would initialise an area. Where it is refused, the area stays as
-/// it is.
+/// The bytes of an NFIT, and what is said of a line that would initialise an area. Where it is refused, the area stays
+/// as it is.
 #[test]
 fn tables(rt: HostRuntime) -> Result<(), Fail> {
     let alloc = rt.alloc();
@@ -780,8 +785,8 @@ fn tables(rt: HostRuntime) -> Result<(), Fail> {
     Ok(())
 }
 
-/// The read of the source that fails, the call of the rig that fails, how often the source failed, and what is said. The
-/// NFIT has 280 bytes, which are read by two calls.
+/// The read of the source that fails, the call of the rig that fails, how often the source failed, and what is said.
+/// The NFIT has 280 bytes, which are read by two calls.
 #[test]
 fn faults_of_the_source(rt: HostRuntime) -> Result<(), Fail> {
     let alloc = rt.alloc();

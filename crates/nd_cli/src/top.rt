@@ -23,9 +23,9 @@ use std::alloc::Global;
 /// comment, as the line of `do`, have no reply. The form `do` reads the NFIT first, and `labels` reads none.
 ///
 /// The status is 0 where the labels of the area were listed or the command was accepted, and 1 where it was refused; 2
-/// where the words are no form, 3 where the NFIT is none, 4 where the rig failed at an area, 5 where the source of the NFIT
-/// failed or has more than 1,048,576 bytes, 6 where memory was refused, and 7 where the text could not be said whole. The
-/// first fault ends the run.
+/// where the words are no form, 3 where the NFIT is none, 4 where the rig failed at an area, 5 where the source of the
+/// NFIT failed or has more than 1,048,576 bytes, 6 where memory was refused, and 7 where the text could not be said
+/// whole. The first fault ends the run.
 pub fn nd_top<R: Rig, N: Source>(alloc: Global, words: &[String], rig: &mut R, nfit: &mut N) -> u8
     ensures ends { Ends R.Shown N.Source (asked words.now) rig.old rig.new nfit.old nfit.new result }
     ensures any_moment { LeavesSaid R.Shown (named_by (asked words.now)) rig.old rig.new }
@@ -80,7 +80,8 @@ fn do_line<R: Rig, N: Source>(
     rig: &mut R,
     nfit: &mut N,
 ) -> Result<Option<Reply>, Fault>
-    ensures came { ComesTo R.Shown N.Source (Some (Line line.now)) rig.old rig.new nfit.old nfit.new (outcome_of result) }
+    ensures came { ComesTo R.Shown N.Source (Some (Line line.now)) rig.old rig.new nfit.old nfit.new
+        (outcome_of result) }
     ensures any_moment { LeavesUnsaid R.Shown (named_by (Some (Line line.now))) rig.old rig.new }
     ensures nfit_first { RefusesNfit N.Source (Some (Line line.now)) nfit.old → AsksNothing R.Shown rig.old rig.new }
     ensures unwritten { may_have_written result ≡ false → Reads R.Shown rig.old rig.new }

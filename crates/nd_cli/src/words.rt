@@ -128,7 +128,8 @@ fn labels(front: &[String], back: &[String]) -> Option<Form>
     Some(Form::Labels { dimm })
 }
 
-/// A device handle: a number below 2^32, as 1 to 20 decimal digits, or `0x` and 1 to 16 hexadecimal ones of either case.
+/// A device handle: a number below 2^32, as 1 to 20 decimal digits, or `0x` and 1 to 16 hexadecimal ones of either
+/// case.
 pub(crate) fn read_handle(text: &str) -> Option<u32>
     ensures { result ≡ handle text.now }
 {

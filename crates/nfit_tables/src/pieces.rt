@@ -62,8 +62,8 @@ pub struct MappingPiece {
     pub tail: List<u8>,
 }
 
-/// How lines of a module are interleaved (type 2, section 5.2.25.4). The line size is in bytes, and the offsets of lines
-/// are in lines.
+/// How lines of a module are interleaved (type 2, section 5.2.25.4). The line size is in bytes, and the offsets of
+/// lines are in lines.
 #[derive(Drop)]
 pub struct InterleavePiece {
     pub index: u16,

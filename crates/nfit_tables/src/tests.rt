@@ -9,7 +9,8 @@ use view_types::List;
 /// What stands in an NFIT.
 #[derive(Clone, Copy)]
 enum Part {
-    /// A structure of the least length of its type with an index, which stands in a mapping where a range's index does.
+    /// A structure of the least length of its type with an index, which stands in a mapping where a range's index
+    /// does.
     Named(u16, u16),
     /// A structure of this type that tells a length: so many bytes, at least 4, with zeros behind its type and length.
     Zeroed(u16, u16, usize),
@@ -129,7 +130,8 @@ fn fault_of(alloc: Global, bytes: &[u8]) -> Result<Option<NfitFault>, &'static s
     }
 }
 
-/// The table of two modules with so many bytes, with numbers added to some of them, and the right checksum if it is set.
+/// The table of two modules with so many bytes, with numbers added to some of them, and the right checksum if it is
+/// set.
 fn changed(
     alloc: Global,
     len: usize,
@@ -149,8 +151,8 @@ fn changed(
     Ok(bytes)
 }
 
-/// The table of two modules, cut or with zeros behind it: how many bytes it has, what is added to some of them, whether
-/// the checksum is set then, and the first fault.
+/// The table of two modules, cut or with zeros behind it: how many bytes it has, what is added to some of them,
+/// whether the checksum is set then, and the first fault.
 #[test]
 fn changed_tables(rt: HostRuntime) -> Result<(), Fail> {
     let told = |told: u32, len: u64| NfitFault::Length { told, len };

@@ -3,7 +3,8 @@
 ghost use Rattle.std.specs.Prelude.{◌≡◌};
 ghost use Rattle.rig_trait.specs.Counts.{no_counts, read_counted, fault_counted, say_fault_counted};
 
-/// How often the calls of a rig failed, and how often it was read. A count that has reached its last value stays there.
+/// How often the calls of a rig failed, and how often it was read. A count that has reached its last value stays
+/// there.
 #[derive(Clone, Copy)]
 pub struct Counts {
     pub faults: u64,

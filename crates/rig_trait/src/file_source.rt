@@ -12,8 +12,8 @@ use std::{fs, io};
 /// The bytes of a file. What files hold is outside of what is proved, so it tells no bytes. It takes memory when it is
 /// made, and never later.
 ///
-/// The first read opens the file, and later ones go on from where it stands. A read fails where the path is missing, is
-/// no regular file or can't be opened: the next one tries to open it again. A read of the open file fails where the
+/// The first read opens the file, and later ones go on from where it stands. A read fails where the path is missing,
+/// is no regular file or can't be opened: the next one tries to open it again. A read of the open file fails where the
 /// system's does: the file stays open, and the next one goes on.
 #[derive(Drop)]
 pub struct FileSource {

@@ -1,5 +1,5 @@
-//! The outside of the program: the label storage areas of all modules and the standard output, as one trait, with
-//! a form in memory and a form over files; and what bytes are read from, as another, with a form in memory, one over any
+//! The outside of the program: the label storage areas of all modules and the standard output, as one trait, with a
+//! form in memory and a form over files; and what bytes are read from, as another, with a form in memory, one over any
 //! reader and one over a file.
 #![tactic(auto)]
 

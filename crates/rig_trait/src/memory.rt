@@ -156,10 +156,16 @@ impl Rig for MemoryRig {
     fn size(&mut self, dimm: u32) -> Result<Option<u64>, Failed>
         // It fails at the listed calls alone, and changes its counts alone.
         ensures listed { IsErr result ↔ Contains self.old.listed self.old.calls }
-        ensures ok { OnOk result (self.new ≡ record self.old { calls = one_more self.old.calls; counts = read_counted self.old.counts }) }
-        ensures err { OnErr result (self.new ≡ record self.old { calls = one_more self.old.calls; counts = fault_counted dimm (read_counted self.old.counts) }) }
+        ensures ok { OnOk result (self.new
+            ≡ record self.old { calls = one_more self.old.calls; counts = read_counted self.old.counts }) }
+        ensures err { OnErr result (self.new
+            ≡ record self.old {
+              calls = one_more self.old.calls;
+              counts = fault_counted dimm (read_counted self.old.counts);
+            }) }
 
-        ensures size { IsTold ⟦<MemoryRig as Shown>⟧ self.old → IfOk result (λ size. size ≡ size_in self.old.areas dimm) }
+        ensures size { IsTold ⟦<MemoryRig as Shown>⟧ self.old
+            → IfOk result (λ size. size ≡ size_in self.old.areas dimm) }
         ensures reads_only { Reads ⟦<MemoryRig as Shown>⟧ self.old self.new }
         ensures cause { FailsAt dimm ⟦<MemoryRig as Shown>⟧ self.old self.new (is_err result) }
         ensures reads { HasRisen self.old.counts.reads self.new.counts.reads }
@@ -175,8 +181,13 @@ impl Rig for MemoryRig {
     fn read(&mut self, dimm: u32, at: u64, into: &mut [u8]) -> Result<(), Failed>
         requires { IsTold ⟦<MemoryRig as Shown>⟧ self.old → IsWithin self.old.areas dimm at (length into.old) }
         ensures listed { IsErr result ↔ Contains self.old.listed self.old.calls }
-        ensures ok { OnOk result (self.new ≡ record self.old { calls = one_more self.old.calls; counts = read_counted self.old.counts }) }
-        ensures err { OnErr result (self.new ≡ record self.old { calls = one_more self.old.calls; counts = fault_counted dimm (read_counted self.old.counts) }) }
+        ensures ok { OnOk result (self.new
+            ≡ record self.old { calls = one_more self.old.calls; counts = read_counted self.old.counts }) }
+        ensures err { OnErr result (self.new
+            ≡ record self.old {
+              calls = one_more self.old.calls;
+              counts = fault_counted dimm (read_counted self.old.counts);
+            }) }
 
         ensures bytes { GivesBytes ⟦<MemoryRig as Shown>⟧ self.old dimm at (length into.old) into.new result }
         ensures reads_only { Reads ⟦<MemoryRig as Shown>⟧ self.old self.new }
@@ -198,8 +209,10 @@ impl Rig for MemoryRig {
     fn write(&mut self, dimm: u32, at: u64, bytes: &[u8]) -> Result<(), Failed>
         requires { IsTold ⟦<MemoryRig as Shown>⟧ self.old → IsWithin self.old.areas dimm at (length bytes.now) }
         ensures listed { IsErr result ↔ Contains self.old.listed self.old.calls }
-        ensures ok { OnOk result (self.new ≡ record self.old { areas = written self.old.areas dimm at bytes.now; calls = one_more self.old.calls }) }
-        ensures err { OnErr result (self.new ≡ record self.old { calls = one_more self.old.calls; counts = fault_counted dimm self.old.counts }) }
+        ensures ok { OnOk result (self.new
+            ≡ record self.old { areas = written self.old.areas dimm at bytes.now; calls = one_more self.old.calls }) }
+        ensures err { OnErr result (self.new
+            ≡ record self.old { calls = one_more self.old.calls; counts = fault_counted dimm self.old.counts }) }
 
         ensures written { WritesBytes ⟦<MemoryRig as Shown>⟧ self.old self.new dimm at bytes.now result }
         ensures writes_only { WritesTo dimm ⟦<MemoryRig as Shown>⟧ self.old self.new }
@@ -218,9 +231,12 @@ impl Rig for MemoryRig {
 
     fn say(&mut self, bytes: &[u8]) -> Result<(), Failed>
         // It fails at the listed calls and past the room alone, and says nothing then.
-        ensures listed_or_full { IsErr result ↔ (Contains self.old.listed self.old.calls ⊎ (self.old.room < length self.old.said + length bytes.now)) }
-        ensures ok { OnOk result (self.new ≡ record self.old { said = self.old.said ++ bytes.now; calls = one_more self.old.calls }) }
-        ensures err { OnErr result (self.new ≡ record self.old { calls = one_more self.old.calls; counts = say_fault_counted self.old.counts }) }
+        ensures listed_or_full { IsErr result ↔ (Contains self.old.listed self.old.calls
+            ⊎ (self.old.room < length self.old.said + length bytes.now)) }
+        ensures ok { OnOk result (self.new
+            ≡ record self.old { said = self.old.said ++ bytes.now; calls = one_more self.old.calls }) }
+        ensures err { OnErr result (self.new
+            ≡ record self.old { calls = one_more self.old.calls; counts = say_fault_counted self.old.counts }) }
 
         ensures said { IsTold ⟦<MemoryRig as Shown>⟧ self.old → Says self.old.said self.new.said bytes.now result }
         ensures says_only { SaysOnly ⟦<MemoryRig as Shown>⟧ self.old self.new (is_err result) }

@@ -34,8 +34,8 @@ impl Model for MemorySource {
 }
 
 impl MemorySource {
-    /// A source of these bytes, of whose reads those fail that `fail_at` lists, by their numbers from 0. A read that fails
-    /// takes no bytes.
+    /// A source of these bytes, of whose reads those fail that `fail_at` lists, by their numbers from 0. A read that
+    /// fails takes no bytes.
     pub fn new(bytes: Vec<u8>, fail_at: Vec<u64>) -> MemorySource
         ensures { result ≡ new_input bytes.items fail_at.items }
     {
@@ -80,8 +80,10 @@ impl Source for MemorySource {
         // It fails at the listed reads alone, and gives as many bytes as fit.
         ensures listed { IsErr result ↔ Contains self.old.listed self.old.calls }
         ensures count { IfOk result (λ n. n ≡ min (length into.old) (length self.old.left)) }
-        ensures ok { IfOk result (λ n. self.new ≡ record self.old { left = drop n self.old.left; calls = one_more self.old.calls }) }
-        ensures err { OnErr result (self.new ≡ record self.old { calls = one_more self.old.calls; faults = one_more self.old.faults }) }
+        ensures ok { IfOk result (λ n. self.new
+            ≡ record self.old { left = drop n self.old.left; calls = one_more self.old.calls }) }
+        ensures err { OnErr result (self.new
+            ≡ record self.old { calls = one_more self.old.calls; faults = one_more self.old.faults }) }
 
         ensures bytes { IsTrue true → IfOk result (λ n. take n into.new ≡ take n self.old.left) }
         ensures left { IsTrue true → IfOk result (λ n. self.new.left ≡ drop n self.old.left) }

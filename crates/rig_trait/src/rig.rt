@@ -33,8 +33,8 @@ pub trait Rig: Shown {
         ensures cause { FailsAt dimm Self.Shown self.old self.new (is_err result) }
         ensures reads { HasRisen (Self.reads self.old) (Self.reads self.new) };
 
-    /// Puts bytes into an area, from the offset `at` on. At `Ok` they stand there and are durable. A write that fails, or
-    /// within which all stops, leaves any bytes in its range. All other bytes of all areas stay as they were.
+    /// Puts bytes into an area, from the offset `at` on. At `Ok` they stand there and are durable. A write that fails,
+    /// or within which all stops, leaves any bytes in its range. All other bytes of all areas stay as they were.
     fn write(&mut self, dimm: u32, at: u64, bytes: &[u8]) -> Result<(), Failed>
         requires { IsTold Self.Shown self.old → IsWithin (Self.areas self.old) dimm at (length bytes.now) }
         ensures written { WritesBytes Self.Shown self.old self.new dimm at bytes.now result }

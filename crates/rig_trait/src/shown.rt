@@ -9,8 +9,8 @@ ghost use Rattle.rig_trait.specs.Records.{CrashRecord};
 /// A rig that tells its areas and what was said says so by `tells`; what the calls of a rig promise of content holds
 /// there, and all else holds of every rig.
 ///
-/// A stop at any moment leaves a crash record: all areas, what was said, and the write that was torn, if there is one. A
-/// rig that tells its records says so by `tells_records`; one that doesn't has none.
+/// A stop at any moment leaves a crash record: all areas, what was said, and the write that was torn, if there is one.
+/// A rig that tells its records says so by `tells_records`; one that doesn't has none.
 pub trait Shown {
     /// Whether it tells its areas and the bytes said.
     ghost tells: { Self → Bool };

@@ -8,8 +8,8 @@ use crate::Failed;
 
 /// Bytes that are read from the front, each once, as those of the standard input.
 ///
-/// A source that tells the bytes that it has left says so by `tells`; what its calls promise of content holds there, and
-/// all else holds of every source. After a read that failed it may be read again.
+/// A source that tells the bytes that it has left says so by `tells`; what its calls promise of content holds there,
+/// and all else holds of every source. After a read that failed it may be read again.
 pub trait Source {
     /// Whether it tells the bytes left.
     ghost tells: { Self → Bool };
@@ -20,12 +20,14 @@ pub trait Source {
     /// How often `read` failed.
     ghost faults: { Self → ℕ };
 
-    /// Reads some of the bytes left to the front of `into`, and gives their number. For a place that isn't empty, that is
-    /// 0 exactly where the input ends. What the rest of the place holds then, and all of it at an `Err`, is left open.
+    /// Reads some of the bytes left to the front of `into`, and gives their number. For a place that isn't empty, that
+    /// is 0 exactly where the input ends. What the rest of the place holds then, and all of it at an `Err`, is left
+    /// open.
     fn read(&mut self, into: &mut [u8]) -> Result<usize, Failed>
         ensures bytes { IsTrue (tells self.old) → IfOk result (λ n. take n into.new ≡ take n (left self.old)) }
         ensures left { IsTrue (tells self.old) → IfOk result (λ n. left self.new ≡ drop n (left self.old)) }
-        ensures end { IsTrue (tells self.old) → 0 < length into.old → IfOk result (λ n. (n ≡ 0) ↔ (left self.old ≡ [])) }
+        ensures end { IsTrue (tells self.old) → 0 < length into.old
+            → IfOk result (λ n. (n ≡ 0) ↔ (left self.old ≡ [])) }
         ensures kept { IsTrue (tells self.old) → OnErr result (left self.new ≡ left self.old) }
         ensures fits { IfOk result (λ n. n ≤ length into.old) }
         ensures tells { tells self.new ≡ tells self.old }

@@ -6,8 +6,8 @@ use crate::{Failed, Source};
 use std::io::Read;
 use std::marker::Model;
 
-/// The bytes that a reader gives, as those of the standard input, which is `rt.stdin()`. What a reader gives is outside
-/// of what is proved, so it tells no bytes. It takes no memory.
+/// The bytes that a reader gives, as those of the standard input, which is `rt.stdin()`. What a reader gives is
+/// outside of what is proved, so it tells no bytes. It takes no memory.
 ///
 /// A read fails where the reader's does. The next one asks the reader again.
 #[derive(Drop)]

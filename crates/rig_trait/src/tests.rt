@@ -55,8 +55,8 @@ fn answer<T: Drop>(is_ok: bool, value: T) -> Result<T, Failed> {
     if is_ok { Ok(value) } else { Err(Failed) }
 }
 
-/// The calls are the size of an area, the size of none, a read, texts of 3, 3 and 2 bytes in a room of 5, the two calls
-/// that write inside of an area, and the two that read the whole of it.
+/// The calls are the size of an area, the size of none, a read, texts of 3, 3 and 2 bytes in a room of 5, the two
+/// calls that write inside of an area, and the two that read the whole of it.
 #[test]
 fn memory_calls(rt: HostRuntime) -> Result<(), Fail> {
     let alloc = rt.alloc();

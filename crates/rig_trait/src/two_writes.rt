@@ -9,8 +9,8 @@ ghost use Rattle.rig_trait.specs.TwoWrites.{LeavesTwo, WritesBoth, WritesInTurn}
 use crate::{Failed, Rig};
 
 /// Puts bytes into an area from the offset `first_at` on, and then others from `second_at` on. The second write begins
-/// where the first is durable: a stop at any moment leaves neither of them, a front of them, or any bytes where the one
-/// goes that was stopped or failed.
+/// where the first is durable: a stop at any moment leaves neither of them, a front of them, or any bytes where the
+/// one goes that was stopped or failed.
 pub fn write_two<R: Rig>(
     rig: &mut R,
     dimm: u32,

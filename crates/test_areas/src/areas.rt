@@ -4,7 +4,8 @@ ghost use Rattle.std.specs.Prelude.{◌≡◌, vec_len, IfOk};
 
 use std::alloc::{AllocError, Global};
 
-/// An area of so many zeros, with index blocks and labels over them at their offsets. What is past the end is left out.
+/// An area of so many zeros, with index blocks and labels over them at their offsets. What is past the end is left
+/// out.
 pub fn area(alloc: Global, size: usize, parts: &[(usize, &[u8])]) -> Result<Vec<u8>, AllocError>
     ensures { IfOk result (λ area. vec_len area ≡ size) }
 {

@@ -76,8 +76,8 @@ impl Index {
         self.entries.capacity() - self.entries.len()
     }
 
-    /// Makes room for so many more entries. It takes no memory where the index has that room. After a refusal of memory
-    /// the index is as before.
+    /// Makes room for so many more entries. It takes no memory where the index has that room. After a refusal of
+    /// memory the index is as before.
     pub fn reserve(&mut self, additional: usize) -> Result<(), AllocError>
         ensures entries { self.new.entries ≡ self.old.entries }
         ensures room { self.old.room ≤ self.new.room }
