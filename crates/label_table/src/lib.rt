@@ -1,4 +1,5 @@
-//! What the labels of all modules stand for: namespaces, held space and free space, as one table (UEFI 2.7, section 13.19).
+//! What the labels of all modules stand for: namespaces, held space and free space, as one table (UEFI 2.7, section
+//! 13.19).
 #![tactic(auto)]
 
 mod belonging;
