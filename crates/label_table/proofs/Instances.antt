@@ -1,12 +1,11 @@
 -- The premises of each law can be met.
-use Rattle.std.proofs.Common.{◌≡◌, ◌≢◌, ◌⊎◌, inl, inr, ⊎_elim, ℕ, zero, suc, ◌+◌, ◌≤◌, ◌<◌, Bool, true, false, not, cond, List, [], ◌∷◌, length, Option, Some, None, refl, sym, ap, subst, ◌∙◌, arith}
+use Rattle.std.proofs.Common.{◌≡◌, ◌⊎◌, inl, inr, ⊎_elim, ℕ, zero, suc, ◌+◌, ◌≤◌, ◌<◌, Bool, true, false, not, cond, [], ◌∷◌, length, Some, None, refl, sym, subst, ◌∙◌, arith}
 use Rattle.std.specs.Prelude.{◌==◌, ◌&&◌, ◌||◌, nat_le, nat_lt, replicate}
 use Rattle.std.specs.List.{Contains}
-use Rattle.std.proofs.lemmas.Bool.{cases_eq, cases_lt}
-use Rattle.view_types.specs.declared.extents.Extent.{Extent}
+use Rattle.std.proofs.lemmas.Bool.{cases_lt}
 use Rattle.label_codec.specs.declared.label.Label.{Label}
 use Rattle.label_codec.specs.Flags.{is_read_only, is_updating}
-use Rattle.module_labels.specs.declared.kind.AreaKind.TheVariants.{Ready, Uninit}
+use Rattle.module_labels.specs.declared.kind.AreaKind.TheVariants.{Uninit}
 use Rattle.module_labels.specs.Flips.{with_module, without_slots}
 use Rattle.module_labels.specs.Labels.{IsBounded, Labels, Module, has, label_if}
 use Rattle.region_map.specs.declared.platform.Member.{Member}
@@ -14,22 +13,22 @@ use Rattle.region_map.specs.declared.platform.Region.{Region}
 use Rattle.label_table.specs.Belonging.{IsDisjoint, belongs, member_at, region_at}
 use Rattle.label_table.specs.Division.{AreFreeExtents, IsOpen, Part}
 use Rattle.label_table.specs.Fates.{is_dead, is_held}
-use Rattle.label_table.specs.Flips.{AddsOne, AllStale, EachLabel, FreesOne, HasNone, IsConfined, LeavesOutDead, ReplacesOne, other_labels}
+use Rattle.label_table.specs.Flips.{AddsOne, AllStale, EachLabel, FreesOne, IsConfined, LeavesOutDead, ReplacesOne, other_labels}
 use Rattle.label_table.specs.Settling.{IsInitialised, IsReleased, settled, with_ready_area, without_held}
 use Rattle.label_table.specs.Spaces.{Space}
 use Rattle.label_table.specs.Statuses.{RegionReady, status}
 use Rattle.label_table.specs.Tables.{ChangesAt, state, table, with_namespace, without_namespace}
 use Rattle.label_table.specs.Wholes.{label_count, labels_with}
 use Rattle.label_table.proofs.Changing.{replaced-kept}
-use Rattle.label_table.proofs.Examples.{region, platform, first_uuid, name_a, name_b, updating, label, member, part, no_label, at_first, ready_area, missing, two_modules}
+use Rattle.label_table.proofs.Examples.{region, platform, first_uuid, name_a, updating, label, member, part, no_label, at_first, ready_area, missing, two_modules}
 use Rattle.label_table.proofs.Initialising.{init-table}
 use Rattle.label_table.proofs.Losing.{freed-state}
-use Rattle.label_table.proofs.OneFlip.{freed-dead, with_module-here}
+use Rattle.label_table.proofs.OneFlip.{freed-dead}
 use Rattle.label_table.proofs.Partition.{partition}
 use Rattle.label_table.proofs.Releasing.{release-table}
-use Rattle.label_table.proofs.Staging.{left-state, staged-gains, staged-kept}
+use Rattle.label_table.proofs.Staging.{left-state, staged-gains}
 use Rattle.label_table.proofs.StatusLaws.{ready-without}
-use Rattle.label_table.proofs.ListTests.{Contains-cases, Contains-here, Contains-none, Contains-there, eq_other, eq_same, eq_true, le_from, lt_from, lt_not, never, none_some, some_is}
+use Rattle.label_table.proofs.ListTests.{Contains-cases, Contains-here, Contains-none, Contains-there, eq_other, le_from, lt_from, lt_not, some_is}
 use Rattle.label_table.proofs.WholeUuids.{same_module}
 
 first_member : Member

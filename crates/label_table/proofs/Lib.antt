@@ -20,3 +20,4 @@ pub mod Releasing
 pub mod SoundPlatforms
 pub mod OnlyLabels
 mod Instances
+pub mod TableChanges

@@ -1,5 +1,5 @@
 -- The first label of a module with a uuid, and the only one.
-use Rattle.std.proofs.Common.{◌≡◌, ◌≢◌, ◌⊎◌, inl, inr, ℕ, zero, suc, ◌+◌, ◌≤◌, ◌<◌, Bool, true, false, cond, List, [], ◌∷◌, length, get_or, Option, Some, None, refl, sym, ap, subst, ◌∙◌, arith}
+use Rattle.std.proofs.Common.{◌≡◌, ◌⊎◌, inl, inr, ℕ, zero, suc, ◌+◌, ◌<◌, Bool, true, false, cond, List, [], ◌∷◌, length, get_or, Option, Some, None, refl, sym, ap, subst, ◌∙◌, arith}
 use Rattle.std.specs.Prelude.{◌==◌, ◌&&◌, is_some, slice_get}
 use Rattle.std.specs.Option.{option_flatten, option_or}
 use Rattle.std.proofs.lemmas.Bool.{cases_eq}
@@ -8,8 +8,8 @@ use Rattle.module_labels.specs.Labels.{Module, first, first_below, has, label_if
 use Rattle.module_labels.proofs.Counting.{IsFirst, Slots, count-none, count-one, count-same, first_below-cases}
 use Rattle.label_table.specs.Plain.{HasOnly, IsOnly}
 use Rattle.label_table.specs.Wholes.{any_label}
-use Rattle.label_table.proofs.Confined.{number-none, number-same}
-use Rattle.label_table.proofs.ListTests.{both, eq_other, none_some, some_is}
+use Rattle.label_table.proofs.Confined.{number-none}
+use Rattle.label_table.proofs.ListTests.{some_is}
 
 pub first_below-none : (f : Slots) (n : ℕ) → first_below f n ≡ None → f n ≡ None → first_below f (n + 1) ≡ None
 first_below-none f n below here =

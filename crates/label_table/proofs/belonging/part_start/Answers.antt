@@ -1,4 +1,4 @@
-use Rattle.std.proofs.Common.{◌≡◌, ℕ, zero, suc, List, [], ◌∷◌, Option, None, get_or, slice_get, refl, sym, ap, subst}
+use Rattle.std.proofs.Common.{◌≡◌, ℕ, zero, suc, List, [], ◌∷◌, None, get_or, slice_get, refl, sym, ap, subst}
 use Rattle.region_map.specs.declared.platform.Member.{Member}
 use Rattle.label_table.specs.Belonging.{no_member}
 use Rattle.label_table.proofs.belonging.part_start.Goals as goal

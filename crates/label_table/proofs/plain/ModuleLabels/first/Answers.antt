@@ -1,4 +1,4 @@
-use Rattle.std.proofs.Common.{◌≡◌, ◌∙◌, sym}
+use Rattle.std.proofs.Common.{◌∙◌, sym}
 use Rattle.label_table.proofs.OnlyLabels.{slots-found, slots-passed}
 use Rattle.label_table.proofs.plain.ModuleLabels.first.Goals as goal
 

@@ -1,4 +1,4 @@
-use Rattle.std.proofs.Common.{◌≡◌, ◌∙◌, sym, subst}
+use Rattle.std.proofs.Common.{◌∙◌, sym, subst}
 use Rattle.label_table.specs.Plain.{IsOnly, module_in}
 use Rattle.label_table.proofs.OnlyLabels.{only-first}
 use Rattle.label_table.proofs.plain.ModuleLabels.only.Goals as goal
