@@ -9,8 +9,8 @@ use std::io::{ErrorKind, Read};
 use std::marker::Model;
 use std::{fs, io};
 
-/// The bytes of a file. What files hold is outside of what is proved, so it tells no bytes. It takes memory when it is
-/// made, and never later.
+/// The bytes of a file. What files hold is outside of what is proved, so it tells no bytes. The memory of its path
+/// is taken when it is made.
 ///
 /// The first read opens the file, and later ones go on from where it stands. A read fails where the path is missing,
 /// is no regular file or can't be opened: the next one tries to open it again. A read of the open file fails where the

@@ -19,7 +19,7 @@ use std::{fs, io};
 /// tells no areas, nothing said and no crash records.
 ///
 /// A missing file, or a missing folder, is no area. A path that is there and is no regular file fails, as does a
-/// range outside of the file. It takes memory when it is made, and never later.
+/// range outside of the file. The memory of its path is taken when it is made.
 #[derive(Drop)]
 pub struct FileRig {
     rt: HostRuntime,
