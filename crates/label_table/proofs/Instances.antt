@@ -26,7 +26,7 @@ use Rattle.label_table.proofs.Losing.{freed-state}
 use Rattle.label_table.proofs.OneFlip.{freed-dead}
 use Rattle.label_table.proofs.Partition.{partition}
 use Rattle.label_table.proofs.Releasing.{release-table}
-use Rattle.label_table.proofs.Staging.{left-state, staged-gains}
+use Rattle.label_table.proofs.Staging.{left-state, staged-gains, staged-kept}
 use Rattle.label_table.proofs.StatusLaws.{ready-without}
 use Rattle.label_table.proofs.ListTests.{Contains-cases, Contains-here, Contains-none, Contains-there, eq_other, le_from, lt_from, lt_not, some_is}
 use Rattle.label_table.proofs.WholeUuids.{same_module}
@@ -155,6 +155,29 @@ freed : state platform one_label
 freed = freed-state platform region first_uuid (member 0x101 4096) both_labels one_label frees
 
 -- A first and a second stale label are added.
+adds_first : AddsOne platform region first_uuid (member 0x1 0) none one_label
+adds_first = record {
+  disjoint = disjoint;
+  bounded = bounded (ready_area (at_first first_label no_label)) (ready_area no_label) (first_within first_label) none_within;
+  region_in = region_in;
+  member_in = Contains-here (member 0x1 0) (member 0x101 4096 ∷ []);
+  confined = record {
+    others = λ handle differ. (let f : (handle == 0x1) ≡ false = eq_other handle 0x1 differ in λ i. cond (f i) (ready_area (at_first first_label no_label)) (cond (handle == 0x101) (ready_area no_label) missing))
+        ∙ sym (let f : (handle == 0x1) ≡ false = eq_other handle 0x1 differ in λ i. cond (f i) (ready_area no_label) (cond (handle == 0x101) (ready_area no_label) missing));
+    rest = drops first_label refl;
+  };
+  none = λ k l is. absurd cc;
+  all_there = refl;
+  stale = each_label (ready_area (at_first first_label no_label)) (ready_area no_label) (λ x l. (is_updating l ≡ true) × (is_read_only l ≡ false))
+      (λ k l is. subst (λ (a : Label). (is_updating a ≡ true) × (is_read_only a ≡ false)) (from_first first_label k l is) (refl, refl)) (λ k l is. absurd cc);
+  mine = each_label (ready_area (at_first first_label no_label)) (ready_area no_label) (λ x l. belongs region x.handle l ≡ true)
+      (λ k l is. subst (λ (a : Label). belongs region 0x1 a ≡ true) (from_first first_label k l is) refl) (λ k l is. absurd cc);
+  few = by_member (λ x. label_count (labels_with first_uuid one_label) x.handle ≤ 1) (omega arith) (omega arith);
+}
+
+staged : state platform one_label ≡ state platform none
+staged = staged-kept platform region first_uuid (member 0x1 0) none one_label adds_first refl
+
 adds_second : AddsOne platform region first_uuid (member 0x101 4096) one_label both_labels
 adds_second = record {
   disjoint = disjoint;
