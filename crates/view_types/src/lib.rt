@@ -6,7 +6,13 @@ mod guids;
 mod key;
 mod laws;
 mod list;
+mod namespaces;
+mod refusal;
+mod reply;
 mod rule;
+mod states;
+mod translation;
+mod views;
 mod word_fault;
 
 pub use extents::Extent;
@@ -14,7 +20,13 @@ pub use guids::{PERSISTENT_MEMORY, persistent_memory};
 pub use key::Key;
 pub use laws::{each_maximal, greatest_fits, one_list};
 pub use list::List;
+pub use namespaces::{Held, Listed, Namespace};
+pub use refusal::Refusal;
+pub use reply::Reply;
 pub use rule::Rule;
+pub use states::{AreaState, Status};
+pub use translation::{Run, TranslateFault};
+pub use views::{ModuleView, RegionView};
 pub use word_fault::WordFault;
 
 #[cfg(test)]
