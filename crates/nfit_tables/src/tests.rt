@@ -1,4 +1,5 @@
 use super::*;
+use Part::{Lines, Modules, Named, OneModule, Others, Regions, Unnamed, Zeroed, Zeros};
 use std::alloc::{AllocError, Global};
 use std::test::Fail;
 use test_areas::{
@@ -29,9 +30,6 @@ enum Part {
     /// Mappings of one module.
     OneModule(u16),
 }
-
-/// Where the structure behind one range stands.
-const BEHIND: NfitFault = NfitFault::Structure { at: 96 };
 
 fn put_zeros(out: &mut Vec<u8>, count: usize) -> Result<(), AllocError> {
     for _ in 0..count {
@@ -151,135 +149,229 @@ fn changed(
     Ok(bytes)
 }
 
-/// The table of two modules, cut or with zeros behind it: how many bytes it has, what is added to some of them,
-/// whether the checksum is set then, and the first fault.
+/// Changes of the table of two modules, and the first fault: how many bytes it has, cut or with zeros behind it, what
+/// is added to some of them, and whether the checksum is set then.
+type Changed = (usize, &'static [(usize, u8)], bool, NfitFault);
+
+const LENGTHS: [Changed; 6] = [
+    (0, &[], false, NfitFault::Short { len: 0 }),
+    (1, &[], false, NfitFault::Short { len: 1 }),
+    (39, &[], false, NfitFault::Short { len: 39 }),
+    (40, &[], false, NfitFault::Length { told: 280, len: 40 }),
+    (
+        279,
+        &[],
+        false,
+        NfitFault::Length {
+            told: 280,
+            len: 279,
+        },
+    ),
+    (
+        281,
+        &[],
+        false,
+        NfitFault::Length {
+            told: 280,
+            len: 281,
+        },
+    ),
+];
+
+const HEADERS: [Changed; 13] = [
+    (280, &[(0, 255)], true, NfitFault::Signature),
+    (280, &[(3, 0x20)], true, NfitFault::Signature),
+    (
+        280,
+        &[(4, 1)],
+        true,
+        NfitFault::Length {
+            told: 281,
+            len: 280,
+        },
+    ),
+    (
+        280,
+        &[(7, 1)],
+        true,
+        NfitFault::Length {
+            told: 0x0100_0118,
+            len: 280,
+        },
+    ),
+    (280, &[(8, 1)], true, NfitFault::Revision { value: 2 }),
+    (280, &[(8, 255)], true, NfitFault::Revision { value: 0 }),
+    (280, &[(42, 200)], true, NfitFault::Structure { at: 40 }),
+    (280, &[(9, 1)], false, NfitFault::Checksum { sum: 1 }),
+    (280, &[(10, 1)], false, NfitFault::Checksum { sum: 1 }),
+    (280, &[(39, 1)], false, NfitFault::Checksum { sum: 1 }),
+    (280, &[(40, 1)], false, NfitFault::Checksum { sum: 1 }),
+    (280, &[(150, 1)], false, NfitFault::Checksum { sum: 1 }),
+    (280, &[(279, 1)], false, NfitFault::Checksum { sum: 1 }),
+];
+
+const FIRST_OF_TWO: [Changed; 5] = [
+    (39, &[(0, 255)], false, NfitFault::Short { len: 39 }),
+    (280, &[(0, 255), (4, 1)], false, NfitFault::Signature),
+    (
+        280,
+        &[(4, 1), (8, 1)],
+        false,
+        NfitFault::Length {
+            told: 281,
+            len: 280,
+        },
+    ),
+    (280, &[(8, 1)], false, NfitFault::Revision { value: 2 }),
+    (280, &[(42, 200)], false, NfitFault::Checksum { sum: 200 }),
+];
+
 #[test]
 fn changed_tables(rt: HostRuntime) -> Result<(), Fail> {
-    let told = |told: u32, len: u64| NfitFault::Length { told, len };
-    let rows: [(usize, &[(usize, u8)], bool, NfitFault); 24] = [
-        (0, &[], false, NfitFault::Short { len: 0 }),
-        (1, &[], false, NfitFault::Short { len: 1 }),
-        (39, &[], false, NfitFault::Short { len: 39 }),
-        (40, &[], false, told(280, 40)),
-        (279, &[], false, told(280, 279)),
-        (281, &[], false, told(280, 281)),
-        (280, &[(0, 255)], true, NfitFault::Signature),
-        (280, &[(3, 0x20)], true, NfitFault::Signature),
-        (280, &[(4, 1)], true, told(281, 280)),
-        (280, &[(7, 1)], true, told(0x0100_0118, 280)),
-        (280, &[(8, 1)], true, NfitFault::Revision { value: 2 }),
-        (280, &[(8, 255)], true, NfitFault::Revision { value: 0 }),
-        (280, &[(42, 200)], true, NfitFault::Structure { at: 40 }),
-        (280, &[(9, 1)], false, NfitFault::Checksum { sum: 1 }),
-        (280, &[(10, 1)], false, NfitFault::Checksum { sum: 1 }),
-        (280, &[(39, 1)], false, NfitFault::Checksum { sum: 1 }),
-        (280, &[(40, 1)], false, NfitFault::Checksum { sum: 1 }),
-        (280, &[(150, 1)], false, NfitFault::Checksum { sum: 1 }),
-        (280, &[(279, 1)], false, NfitFault::Checksum { sum: 1 }),
-        // the first of two faults
-        (39, &[(0, 255)], false, NfitFault::Short { len: 39 }),
-        (280, &[(0, 255), (4, 1)], false, NfitFault::Signature),
-        (280, &[(4, 1), (8, 1)], false, told(281, 280)),
-        (280, &[(8, 1)], false, NfitFault::Revision { value: 2 }),
-        (280, &[(42, 200)], false, NfitFault::Checksum { sum: 200 }),
-    ];
-    for (len, changes, sum, want) in rows {
-        let bytes = changed(rt.alloc(), len, changes, sum)?;
-        assert_eq!(rt; fault_of(rt.alloc(), &bytes)?, Some(want), "of {len} bytes");
+    for rows in [
+        LENGTHS.as_slice(),
+        HEADERS.as_slice(),
+        FIRST_OF_TWO.as_slice(),
+    ] {
+        for (len, adds, sum, want) in rows {
+            let bytes = changed(rt.alloc(), *len, adds, *sum)?;
+            assert_eq!(rt;
+                fault_of(rt.alloc(), &bytes)?,
+                Some(*want),
+                "of {len} bytes"
+            );
+        }
     }
     Ok(())
 }
 
-/// Parts of tables, and the first fault.
+/// The fault of a table of some parts.
+fn fault_of_parts(alloc: Global, parts: &[Part]) -> Result<Option<NfitFault>, Fail> {
+    Ok(fault_of(alloc, &table_of(alloc, parts)?)?)
+}
+
+const ACCEPTED: [&[Part]; 25] = [
+    &[],
+    &[Named(0, 1), Zeroed(0, 56, 56)],
+    &[Named(0, 1), Zeroed(0, 64, 64)],
+    &[Named(0, 1), Zeroed(1, 48, 48)],
+    &[Named(0, 1), Zeroed(1, 49, 49)],
+    &[Named(0, 1), Zeroed(2, 16, 16)],
+    &[Named(0, 1), Zeroed(2, 20, 20)],
+    &[Named(0, 1), Zeroed(3, 4, 4)],
+    &[Named(0, 1), Zeroed(4, 32, 32)],
+    &[Named(0, 1), Zeroed(4, 80, 80)],
+    &[Named(0, 1), Zeroed(9, 4, 4)],
+    &[Named(0, 1), Zeroed(9, 20, 20)],
+    &[Named(0, 1), Zeroed(0xffff, 0xffff, 0xffff)],
+    &[Named(0, 1), Lines(0)],
+    &[Named(0, 1), Lines(1)],
+    &[Named(0, 0), Named(0, 0)],
+    &[Named(2, 0), Named(2, 0), Named(4, 0), Named(4, 0)],
+    &[Named(0, 1), Named(2, 1), Named(4, 1)],
+    &[Named(1, 1), Named(1, 1), Named(0, 1)],
+    &[Named(0, 1), Named(0, 257), Named(0, 513)],
+    &[Regions(64)],
+    &[Others(65), Unnamed(65)],
+    &[Modules(64), Modules(64)],
+    &[OneModule(65)],
+    &[Modules(64), Regions(64), Named(9, 0)],
+];
+
 #[test]
-fn tables_of_parts(rt: HostRuntime) -> Result<(), Fail> {
-    use Part::{Lines, Modules, Named, OneModule, Others, Regions, Unnamed, Zeroed, Zeros};
-    let twice = |kind: u16, index: u16| Some(NfitFault::TwiceIndex { kind, index });
-    let many = |kind: u16| Some(NfitFault::TooMany { kind });
-    let rows: [(&[Part], Option<NfitFault>); 53] = [
-        (&[], None),
-        (&[Named(0, 1), Zeroed(0, 56, 56)], None),
-        (&[Named(0, 1), Zeroed(0, 64, 64)], None),
-        (&[Named(0, 1), Zeroed(1, 48, 48)], None),
-        (&[Named(0, 1), Zeroed(1, 49, 49)], None),
-        (&[Named(0, 1), Zeroed(2, 16, 16)], None),
-        (&[Named(0, 1), Zeroed(2, 20, 20)], None),
-        (&[Named(0, 1), Zeroed(3, 4, 4)], None),
-        (&[Named(0, 1), Zeroed(4, 32, 32)], None),
-        (&[Named(0, 1), Zeroed(4, 80, 80)], None),
-        (&[Named(0, 1), Zeroed(9, 4, 4)], None),
-        (&[Named(0, 1), Zeroed(9, 20, 20)], None),
-        (&[Named(0, 1), Zeroed(0xffff, 0xffff, 0xffff)], None),
-        (&[Named(0, 1), Zeroed(0, 55, 55)], Some(BEHIND)),
-        (&[Named(0, 1), Zeroed(0, 57, 56)], Some(BEHIND)),
-        (&[Named(0, 1), Zeroed(0, 0, 56)], Some(BEHIND)),
-        (&[Named(0, 1), Zeroed(1, 47, 47)], Some(BEHIND)),
-        (&[Named(0, 1), Zeroed(2, 15, 15)], Some(BEHIND)),
-        (&[Named(0, 1), Zeroed(4, 31, 31)], Some(BEHIND)),
-        (&[Named(0, 1), Zeroed(9, 3, 4)], Some(BEHIND)),
-        (&[Named(0, 1), Zeroed(9, 0, 4)], Some(BEHIND)),
-        (&[Named(0, 1), Zeroed(9, 5, 4)], Some(BEHIND)),
-        (&[Named(0, 1), Zeros(1)], Some(BEHIND)),
-        (&[Named(0, 1), Zeros(2)], Some(BEHIND)),
-        (&[Named(0, 1), Zeros(3)], Some(BEHIND)),
-        (&[Named(0, 1), Lines(0)], None),
-        (&[Named(0, 1), Lines(1)], None),
-        (&[Named(0, 1), Lines(2)], Some(BEHIND)),
-        (&[Named(0, 1), Lines(0x4000_0000)], Some(BEHIND)),
-        (&[Named(0, 1), Lines(0x4000_0001)], Some(BEHIND)),
-        (&[Named(0, 1), Lines(0xffff_ffff)], Some(BEHIND)),
-        (&[Named(0, 3), Named(0, 3)], twice(0, 3)),
-        (&[Named(2, 5), Named(2, 5)], twice(2, 5)),
-        (&[Named(4, 7), Named(4, 7)], twice(4, 7)),
-        (
-            &[
-                Named(0, 1),
-                Named(4, 2),
-                Named(0, 9),
-                Named(4, 2),
-                Named(0, 1),
-            ],
-            twice(4, 2),
-        ),
-        (
-            &[
-                Named(0, 1),
-                Named(2, 1),
-                Named(0, 2),
-                Named(0, 2),
-                Named(2, 1),
-            ],
-            twice(0, 2),
-        ),
-        (
-            &[Named(0, 65535), Named(2, 4), Named(0, 65535)],
-            twice(0, 65535),
-        ),
-        (&[Named(4, 256), Named(4, 1), Named(4, 256)], twice(4, 256)),
-        (&[Named(0, 0), Named(0, 0)], None),
-        (&[Named(2, 0), Named(2, 0), Named(4, 0), Named(4, 0)], None),
-        (&[Named(0, 1), Named(2, 1), Named(4, 1)], None),
-        (&[Named(1, 1), Named(1, 1), Named(0, 1)], None),
-        (&[Named(0, 1), Named(0, 257), Named(0, 513)], None),
-        (&[Regions(64)], None),
-        (&[Regions(65)], many(0)),
-        (&[Others(65), Unnamed(65)], None),
-        (&[Modules(64), Modules(64)], None),
-        (&[Modules(65), Modules(65)], many(1)),
-        (&[OneModule(65)], None),
-        // the first of two faults
-        (
-            &[Named(0, 1), Named(0, 1), Zeros(1)],
-            Some(NfitFault::Structure { at: 152 }),
-        ),
-        (&[Regions(65), Named(4, 8), Named(4, 8)], twice(4, 8)),
-        (&[Modules(65), Regions(65)], many(0)),
-        (&[Modules(64), Regions(64), Named(9, 0)], None),
-    ];
-    for (parts, want) in rows {
-        let bytes = table_of(rt.alloc(), parts)?;
-        assert_eq!(rt; fault_of(rt.alloc(), &bytes)?, want);
+fn accepted_tables(rt: HostRuntime) -> Result<(), Fail> {
+    for parts in ACCEPTED {
+        assert_eq!(rt; fault_of_parts(rt.alloc(), parts)?, None);
     }
+    Ok(())
+}
+
+/// What stands behind a range and is no structure.
+const MISSHAPEN: [Part; 16] = [
+    Zeroed(0, 55, 55),
+    Zeroed(0, 57, 56),
+    Zeroed(0, 0, 56),
+    Zeroed(1, 47, 47),
+    Zeroed(2, 15, 15),
+    Zeroed(4, 31, 31),
+    Zeroed(9, 3, 4),
+    Zeroed(9, 0, 4),
+    Zeroed(9, 5, 4),
+    Zeros(1),
+    Zeros(2),
+    Zeros(3),
+    Lines(2),
+    Lines(0x4000_0000),
+    Lines(0x4000_0001),
+    Lines(0xffff_ffff),
+];
+
+#[test]
+fn misshapen_structures(rt: HostRuntime) -> Result<(), Fail> {
+    for part in MISSHAPEN {
+        let fault = fault_of_parts(rt.alloc(), &[Named(0, 1), part])?;
+        assert_eq!(rt; fault, Some(NfitFault::Structure { at: 96 }));
+    }
+    Ok(())
+}
+
+const DOUBLED: [(&[Part], u16, u16); 8] = [
+    (&[Named(0, 3), Named(0, 3)], 0, 3),
+    (&[Named(2, 5), Named(2, 5)], 2, 5),
+    (&[Named(4, 7), Named(4, 7)], 4, 7),
+    (
+        &[
+            Named(0, 1),
+            Named(4, 2),
+            Named(0, 9),
+            Named(4, 2),
+            Named(0, 1),
+        ],
+        4,
+        2,
+    ),
+    (
+        &[
+            Named(0, 1),
+            Named(2, 1),
+            Named(0, 2),
+            Named(0, 2),
+            Named(2, 1),
+        ],
+        0,
+        2,
+    ),
+    (&[Named(0, 65535), Named(2, 4), Named(0, 65535)], 0, 65535),
+    (&[Named(4, 256), Named(4, 1), Named(4, 256)], 4, 256),
+    // before too many
+    (&[Regions(65), Named(4, 8), Named(4, 8)], 4, 8),
+];
+
+#[test]
+fn doubled_indices(rt: HostRuntime) -> Result<(), Fail> {
+    for (parts, kind, index) in DOUBLED {
+        let fault = fault_of_parts(rt.alloc(), parts)?;
+        assert_eq!(rt; fault, Some(NfitFault::TwiceIndex { kind, index }));
+    }
+    Ok(())
+}
+
+#[test]
+fn too_many(rt: HostRuntime) -> Result<(), Fail> {
+    let rows: [(&[Part], u16); 3] = [
+        (&[Regions(65)], 0),
+        (&[Modules(65), Modules(65)], 1),
+        (&[Modules(65), Regions(65)], 0),
+    ];
+    for (parts, kind) in rows {
+        let fault = fault_of_parts(rt.alloc(), parts)?;
+        assert_eq!(rt; fault, Some(NfitFault::TooMany { kind }));
+    }
+    let parts = [Named(0, 1), Named(0, 1), Zeros(1)];
+    assert_eq!(rt;
+        fault_of_parts(rt.alloc(), &parts)?,
+        Some(NfitFault::Structure { at: 152 })
+    );
     Ok(())
 }
 
