@@ -1,9 +1,10 @@
 -- How the texts of replies end, and that none begins as the line of an error.
-use Rattle.std.proofs.Common.{◌≡◌, ℕ, false, List, [], ◌∷◌, ◌++◌, codes, length, nat_eq, refl, sym, ap, ◌∙◌, append_assoc}
+use Rattle.std.proofs.Common.{◌≡◌, ℕ, false, List, [], ◌∷◌, ◌++◌, codes, length, nat_eq, refl, sym, append_assoc}
 use Rattle.std.specs.Fmt.{decimal}
 use Rattle.std.specs.List.{flat_map, starts_with}
 use Rattle.view_types.specs.declared.reply.Reply.{Reply}
-use Rattle.view_types.specs.declared.reply.Reply.TheVariants.{Initialised, Namespaces, Regions, Free, HeldList, Module, Spa, Runs, Refused}
+use Rattle.view_types.specs.declared.reply.Reply.TheVariants.{Initialised, Namespaces, Regions, Free, HeldList}
+use Rattle.view_types.specs.declared.reply.Reply.TheVariants.{Module, Spa, Runs, Refused}
 use Rattle.report_json.specs.Lines.{free_line, held_line, namespace_line, region_line, run_line}
 use Rattle.report_json.specs.Numbers.{address_text, handle_text}
 use Rattle.report_json.specs.Refusals.{refusal_text}
@@ -14,11 +15,15 @@ behind : (before front : List ℕ) → IsEnded (before ++ (front ++ codes "\n"))
 behind before front = (before ++ front, sym (append_assoc before front (codes "\n")))
 
 pub ended : (reply : Reply) → IsEnded (reply_text reply)
-ended (Initialised dimm slots) = (codes "ok initialised dimm=" ++ handle_text dimm ++ codes " slots=" ++ decimal slots, refl)
-ended (Namespaces listed) = behind (flat_map namespace_line listed) (codes "ok namespaces=" ++ decimal (length listed))
+ended (Initialised dimm slots) =
+    (codes "ok initialised dimm=" ++ handle_text dimm ++ codes " slots=" ++ decimal slots, refl)
+ended (Namespaces listed) =
+    behind (flat_map namespace_line listed) (codes "ok namespaces=" ++ decimal (length listed))
 ended (Regions regions) = behind (flat_map region_line regions) (codes "ok regions=" ++ decimal (length regions))
-ended (Free extents largest) = behind (flat_map free_line extents) (codes "ok free=" ++ decimal (length extents) ++ codes " largest=" ++ decimal largest)
-ended (HeldList held spare) = behind (flat_map held_line held) (codes "ok held=" ++ decimal (length held) ++ codes " spare=" ++ decimal spare)
+ended (Free extents largest) =
+    behind (flat_map free_line extents) (codes "ok free=" ++ decimal (length extents) ++ codes " largest=" ++ decimal largest)
+ended (HeldList held spare) =
+    behind (flat_map held_line held) (codes "ok held=" ++ decimal (length held) ++ codes " spare=" ++ decimal spare)
 ended (Module dimm dpa) = (codes "ok dimm=" ++ handle_text dimm ++ codes " dpa=" ++ address_text dpa, refl)
 ended (Spa spa) = (codes "ok spa=" ++ address_text spa, refl)
 ended (Runs runs) = behind (flat_map run_line runs) (codes "ok runs=" ++ decimal (length runs))

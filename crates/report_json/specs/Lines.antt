@@ -30,12 +30,16 @@ namespace_line listed = codes "  namespace uuid=" ++ uuid_text listed.space.uuid
     ++ codes " read-only=" ++ flag_word listed.space.read_only
     ++ codes "\n"
 
--- the number of members and the cookie, which a region has that can be used
+-- the number of members and the cookie
+abbrev pub set_text : ℕ → ℕ → List ℕ
+set_text ways cookie = codes " ways=" ++ decimal ways ++ codes " cookie=" ++ address_text cookie
+
+-- which only a region has that can be used
 abbrev pub members_text : Status → ℕ → ℕ → List ℕ
 members_text (statuses.Unusable rule) ways cookie = []
-members_text (statuses.Area dimm state) ways cookie = codes " ways=" ++ decimal ways ++ codes " cookie=" ++ address_text cookie
-members_text (statuses.Clash first second) ways cookie = codes " ways=" ++ decimal ways ++ codes " cookie=" ++ address_text cookie
-members_text statuses.Ready ways cookie = codes " ways=" ++ decimal ways ++ codes " cookie=" ++ address_text cookie
+members_text (statuses.Area dimm state) ways cookie = set_text ways cookie
+members_text (statuses.Clash first second) ways cookie = set_text ways cookie
+members_text statuses.Ready ways cookie = set_text ways cookie
 
 abbrev pub region_line : RegionView → List ℕ
 region_line region = codes "  region index=" ++ decimal region.index

@@ -12,7 +12,7 @@ hexadecimal_digits (suc count) n = hexadecimal_digits count (n / 16) ++ digit_gl
 unfoldable pub hexadecimal : ℕ → ℕ → List ℕ
 hexadecimal count n = codes "0x" ++ hexadecimal_digits count n
 
--- a device handle
+-- a device handle, or flags
 abbrev pub handle_text : ℕ → List ℕ
 handle_text dimm = hexadecimal 8 dimm
 

@@ -6,7 +6,9 @@ use Rattle.view_types.specs.declared.refusal.Refusal.TheVariants as refusals
 use Rattle.view_types.specs.declared.states.Status.{Status}
 use Rattle.view_types.specs.declared.states.Status.TheVariants as statuses
 use Rattle.view_types.specs.declared.translation.TranslateFault.{TranslateFault}
-use Rattle.view_types.specs.declared.translation.TranslateFault.TheVariants.{NoInterleave, TooManyLines, WaysDiffer, LinesDiffer, OffsetNotLine, Ragged, NotPartition}
+use Rattle.view_types.specs.declared.translation.TranslateFault.TheVariants.{NoInterleave, TooManyLines, WaysDiffer}
+use Rattle.view_types.specs.declared.translation.TranslateFault.TheVariants.{LinesDiffer, OffsetNotLine, Ragged}
+use Rattle.view_types.specs.declared.translation.TranslateFault.TheVariants.{NotPartition}
 use Rattle.view_types.specs.declared.word_fault.WordFault.{WordFault}
 use Rattle.view_types.specs.declared.word_fault.WordFault.TheVariants as faults
 use Rattle.view_types.specs.Keys.{text_of}
@@ -17,7 +19,8 @@ use Rattle.report_json.specs.Words.{rule_word, state_word}
 abbrev pub status_text : Status → List ℕ
 status_text (statuses.Unusable rule) = codes "unusable rule=" ++ rule_word rule
 status_text (statuses.Area dimm state) = state_word state ++ codes " dimm=" ++ handle_text dimm
-status_text (statuses.Clash first second) = codes "clash first=" ++ uuid_text first ++ codes " second=" ++ uuid_text second
+status_text (statuses.Clash first second) = codes "clash first=" ++ uuid_text first
+    ++ codes " second=" ++ uuid_text second
 status_text statuses.Ready = codes "ready"
 
 -- the first fault of a line

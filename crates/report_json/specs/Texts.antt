@@ -3,13 +3,16 @@ use Rattle.std.specs.Prelude.{◌≡◌, ℕ, Bool, true, false, List, ◌++◌,
 use Rattle.std.specs.Fmt.{decimal}
 use Rattle.std.specs.List.{flat_map}
 use Rattle.view_types.specs.declared.reply.Reply.{Reply}
-use Rattle.view_types.specs.declared.reply.Reply.TheVariants.{Initialised, Namespaces, Regions, Free, HeldList, Module, Spa, Runs, Refused}
+use Rattle.view_types.specs.declared.reply.Reply.TheVariants.{Initialised, Namespaces, Regions, Free, HeldList}
+use Rattle.view_types.specs.declared.reply.Reply.TheVariants.{Module, Spa, Runs, Refused}
 use Rattle.report_json.specs.Lines.{free_line, held_line, namespace_line, region_line, run_line}
 use Rattle.report_json.specs.Numbers.{address_text, handle_text}
 use Rattle.report_json.specs.Refusals.{refusal_line}
 
 abbrev pub initialised_line : ℕ → ℕ → List ℕ
-initialised_line dimm slots = codes "ok initialised dimm=" ++ handle_text dimm ++ codes " slots=" ++ decimal slots ++ codes "\n"
+initialised_line dimm slots = codes "ok initialised dimm=" ++ handle_text dimm
+    ++ codes " slots=" ++ decimal slots
+    ++ codes "\n"
 
 abbrev pub module_line : ℕ → ℕ → List ℕ
 module_line dimm dpa = codes "ok dimm=" ++ handle_text dimm ++ codes " dpa=" ++ address_text dpa ++ codes "\n"

@@ -3,7 +3,7 @@
 ghost use Rattle.std.specs.Prelude.{◌≡◌, ◌+◌, ◌*◌, ◌≤◌, ◌<◌, ◌^◌, [], ◌∷◌, ◌++◌, length};
 ghost use Rattle.std.specs.Fmt.{decimal};
 ghost use Rattle.std.specs.List.{flat_map};
-ghost use Rattle.label_codec.specs.Names.{name_before_zero, printed_byte, escaped_byte, printed_name};
+ghost use Rattle.label_codec.specs.Names.{escaped_byte, name_before_zero, printed_byte, printed_name};
 ghost use Rattle.report_json.specs.Numbers.{address_text, handle_text, hexadecimal, hexadecimal_digits, uuid_text};
 ghost use Rattle.report_json.specs.Words.{flag_word};
 
@@ -17,7 +17,7 @@ pub const ROOM: usize = 512;
 
 const HEX_DIGITS: &[u8; 16] = b"0123456789ABCDEF";
 
-/// A text of at most 512 bytes. It is made of parts, each behind a label.
+/// A text of at most 512 bytes, made of parts behind labels.
 #[derive(Drop)]
 pub struct ShortText {
     text: ArrayString<ROOM>,
@@ -75,7 +75,7 @@ impl ShortText {
         self.push_str(Buffer::new().format(number));
     }
 
-    /// Appends a label and a device handle: `0x` and eight hexadecimal digits.
+    /// Appends a label and a device handle, or flags: `0x` and eight hexadecimal digits.
     pub fn push_handle(&mut self, label: &str, dimm: u32)
         requires { length self.old + length label.now + 10 ≤ 512 }
         ensures text { self.new ≡ self.old ++ label.now ++ handle_text dimm }

@@ -2,7 +2,8 @@
 
 ghost use Rattle.std.specs.Prelude.{◌≡◌, ◌+◌, ◌≤◌, ◌++◌, length};
 ghost use Rattle.view_types.specs.Keys.{text_of};
-ghost use Rattle.report_json.specs.Refusals.{refusal_line, refusal_text, status_text, translate_fault_text, word_fault_text};
+ghost use Rattle.report_json.specs.Refusals.{refusal_line, refusal_text, status_text};
+ghost use Rattle.report_json.specs.Refusals.{translate_fault_text, word_fault_text};
 
 use crate::buffer::ShortText;
 use crate::words::{rule_word, state_word};

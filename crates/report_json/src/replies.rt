@@ -3,7 +3,8 @@
 ghost use Rattle.std.specs.Prelude.{◌≡◌, ◌≤◌, ◌++◌, true, codes, drop, length, IfOk};
 ghost use Rattle.std.specs.Fmt.{decimal};
 ghost use Rattle.std.specs.List.{flat_map};
-ghost use Rattle.report_json.specs.Texts.{free_end, held_end, initialised_line, is_one_line, module_line, reply_text, spa_line};
+ghost use Rattle.report_json.specs.Texts.{free_end, held_end, initialised_line, module_line, spa_line};
+ghost use Rattle.report_json.specs.Texts.{is_one_line, reply_text};
 
 use crate::buffer::ShortText;
 use crate::lines::Line;
