@@ -21,7 +21,8 @@ ended (Namespaces listed) =
     behind (flat_map namespace_line listed) (codes "ok namespaces=" ++ decimal (length listed))
 ended (Regions regions) = behind (flat_map region_line regions) (codes "ok regions=" ++ decimal (length regions))
 ended (Free extents largest) =
-    behind (flat_map free_line extents) (codes "ok free=" ++ decimal (length extents) ++ codes " largest=" ++ decimal largest)
+    behind (flat_map free_line extents)
+    (codes "ok free=" ++ decimal (length extents) ++ codes " largest=" ++ decimal largest)
 ended (HeldList held spare) =
     behind (flat_map held_line held) (codes "ok held=" ++ decimal (length held) ++ codes " spare=" ++ decimal spare)
 ended (Module dimm dpa) = (codes "ok dimm=" ++ handle_text dimm ++ codes " dpa=" ++ address_text dpa, refl)

@@ -1,5 +1,8 @@
+ghost use Rattle.std.specs.Prelude.{◌≡◌, true};
+ghost use Rattle.report_json.specs.Texts.{is_one_line};
+
 use super::*;
-use crate::words::{mode_word, rule_word, state_word};
+use crate::words::mode_word;
 use std::alloc::Global;
 use std::process::Abort;
 use std::test::Fail;
@@ -17,15 +20,36 @@ const U2: [u8; 16] = [
     0x0f, 0x6b, 0x1a, 0x52, 0x7c, 0x3e, 0x4d, 0x28, 0x9a, 0x41, 0x5b, 0xe0, 0xc7, 0xd2, 0xe8, 0x14,
 ];
 
-const MISSING: Status = Status::Area {
-    dimm: 0x101,
-    state: AreaState::Missing,
-};
-
-const REFUSALS: [(Refusal, &str); 13] = [
+const REFUSALS: [(Refusal, &str); 29] = [
     (
-        Refusal::Words(WordFault::Key { piece: 1 }),
-        "refused words key piece=1\n",
+        Refusal::Words(WordFault::TooLong),
+        "refused words too-long\n",
+    ),
+    (
+        Refusal::Words(WordFault::Byte { at: 4095 }),
+        "refused words byte at=4095\n",
+    ),
+    (
+        Refusal::Words(WordFault::Unknown),
+        "refused words unknown\n",
+    ),
+    (
+        Refusal::Words(WordFault::Key { piece: 12 }),
+        "refused words key piece=12\n",
+    ),
+    (
+        Refusal::Words(WordFault::Twice { key: Key::Dpa }),
+        "refused words twice key=dpa\n",
+    ),
+    (
+        Refusal::Words(WordFault::Missing { key: Key::Region }),
+        "refused words missing key=region\n",
+    ),
+    (
+        Refusal::Words(WordFault::Value {
+            key: Key::SectorSize,
+        }),
+        "refused words value key=sector-size\n",
     ),
     (
         Refusal::UnknownRegion { region: 2 },
@@ -37,39 +61,97 @@ const REFUSALS: [(Refusal, &str); 13] = [
     ),
     (
         Refusal::Unusable {
+            rule: Rule::NoMapping,
+        },
+        "refused unusable rule=no-mapping\n",
+    ),
+    (
+        Refusal::Unusable {
+            rule: Rule::TooManyWays,
+        },
+        "refused unusable rule=too-many-ways\n",
+    ),
+    (
+        Refusal::Unusable { rule: Rule::Empty },
+        "refused unusable rule=empty\n",
+    ),
+    (
+        Refusal::Unusable {
+            rule: Rule::SizesDiffer,
+        },
+        "refused unusable rule=sizes-differ\n",
+    ),
+    (
+        Refusal::Unusable {
+            rule: Rule::CapacityDiffers,
+        },
+        "refused unusable rule=capacity-differs\n",
+    ),
+    (
+        Refusal::Unusable {
+            rule: Rule::Overflow,
+        },
+        "refused unusable rule=overflow\n",
+    ),
+    (
+        Refusal::Unusable {
+            rule: Rule::ModuleTwice,
+        },
+        "refused unusable rule=module-twice\n",
+    ),
+    (
+        Refusal::Unusable {
+            rule: Rule::OffsetTwice,
+        },
+        "refused unusable rule=offset-twice\n",
+    ),
+    (
+        Refusal::Unusable {
+            rule: Rule::NoControl,
+        },
+        "refused unusable rule=no-control\n",
+    ),
+    (
+        Refusal::Unusable {
             rule: Rule::DpaOverlap,
         },
         "refused unusable rule=dpa-overlap\n",
     ),
     (
-        Refusal::NotReady { status: MISSING },
-        "refused not-ready missing dimm=0x00000101\n",
-    ),
-    (
-        Refusal::NotReady {
-            status: Status::Clash {
-                first: U1,
-                second: U2,
-            },
+        Refusal::NoTranslation {
+            fault: TranslateFault::NoInterleave,
         },
-        "refused not-ready clash first=0f6b1a52-7c3e-4d28-9a41-5be0c7d2e813 \
-second=0f6b1a52-7c3e-4d28-9a41-5be0c7d2e814\n",
+        "refused no-translation no-interleave\n",
     ),
     (
-        Refusal::NotReady {
-            status: Status::Ready,
+        Refusal::NoTranslation {
+            fault: TranslateFault::TooManyLines,
         },
-        "refused not-ready ready\n",
+        "refused no-translation too-many-lines\n",
     ),
     (
-        Refusal::NotReady {
-            status: Status::Unusable(Rule::Empty),
+        Refusal::NoTranslation {
+            fault: TranslateFault::WaysDiffer,
         },
-        "refused not-ready unusable rule=empty\n",
+        "refused no-translation ways-differ\n",
     ),
     (
-        Refusal::AlreadyReady { dimm: 1 },
-        "refused already-ready dimm=0x00000001\n",
+        Refusal::NoTranslation {
+            fault: TranslateFault::LinesDiffer,
+        },
+        "refused no-translation lines-differ\n",
+    ),
+    (
+        Refusal::NoTranslation {
+            fault: TranslateFault::OffsetNotLine,
+        },
+        "refused no-translation offset-not-line\n",
+    ),
+    (
+        Refusal::NoTranslation {
+            fault: TranslateFault::Ragged,
+        },
+        "refused no-translation ragged\n",
     ),
     (
         Refusal::NoTranslation {
@@ -78,10 +160,8 @@ second=0f6b1a52-7c3e-4d28-9a41-5be0c7d2e814\n",
         "refused no-translation not-partition line=1\n",
     ),
     (
-        Refusal::NoTranslation {
-            fault: TranslateFault::NoInterleave,
-        },
-        "refused no-translation no-interleave\n",
+        Refusal::AlreadyReady { dimm: 1 },
+        "refused already-ready dimm=0x00000001\n",
     ),
     (Refusal::Outside, "refused outside\n"),
     (
@@ -90,66 +170,55 @@ second=0f6b1a52-7c3e-4d28-9a41-5be0c7d2e814\n",
     ),
 ];
 
-const WORD_FAULTS: [(WordFault, &str); 7] = [
-    (WordFault::TooLong, "refused words too-long\n"),
-    (WordFault::Byte { at: 4095 }, "refused words byte at=4095\n"),
-    (WordFault::Unknown, "refused words unknown\n"),
-    (WordFault::Key { piece: 12 }, "refused words key piece=12\n"),
+const STATUSES: [(Status, &str); 8] = [
     (
-        WordFault::Twice { key: Key::Dpa },
-        "refused words twice key=dpa\n",
-    ),
-    (
-        WordFault::Missing { key: Key::Region },
-        "refused words missing key=region\n",
-    ),
-    (
-        WordFault::Value {
-            key: Key::SectorSize,
+        Status::Area {
+            dimm: 0x101,
+            state: AreaState::Missing,
         },
-        "refused words value key=sector-size\n",
-    ),
-];
-
-const TRANSLATE_FAULTS: [(TranslateFault, &str); 5] = [
-    (
-        TranslateFault::TooManyLines,
-        "refused no-translation too-many-lines\n",
+        "refused not-ready missing dimm=0x00000101\n",
     ),
     (
-        TranslateFault::WaysDiffer,
-        "refused no-translation ways-differ\n",
+        Status::Area {
+            dimm: 0x101,
+            state: AreaState::WrongSize,
+        },
+        "refused not-ready wrong-size dimm=0x00000101\n",
     ),
     (
-        TranslateFault::LinesDiffer,
-        "refused no-translation lines-differ\n",
+        Status::Area {
+            dimm: 0x101,
+            state: AreaState::Uninit,
+        },
+        "refused not-ready uninit dimm=0x00000101\n",
     ),
     (
-        TranslateFault::OffsetNotLine,
-        "refused no-translation offset-not-line\n",
+        Status::Area {
+            dimm: 0x101,
+            state: AreaState::Foreign,
+        },
+        "refused not-ready foreign dimm=0x00000101\n",
     ),
-    (TranslateFault::Ragged, "refused no-translation ragged\n"),
-];
-
-const RULES: [(Rule, &str); 10] = [
-    (Rule::NoMapping, "no-mapping"),
-    (Rule::TooManyWays, "too-many-ways"),
-    (Rule::Empty, "empty"),
-    (Rule::SizesDiffer, "sizes-differ"),
-    (Rule::CapacityDiffers, "capacity-differs"),
-    (Rule::Overflow, "overflow"),
-    (Rule::ModuleTwice, "module-twice"),
-    (Rule::OffsetTwice, "offset-twice"),
-    (Rule::NoControl, "no-control"),
-    (Rule::DpaOverlap, "dpa-overlap"),
-];
-
-const STATES: [(AreaState, &str); 5] = [
-    (AreaState::Missing, "missing"),
-    (AreaState::WrongSize, "wrong-size"),
-    (AreaState::Uninit, "uninit"),
-    (AreaState::Foreign, "foreign"),
-    (AreaState::Ready { slots: 2, spare: 1 }, "ready"),
+    (
+        Status::Area {
+            dimm: 0x101,
+            state: AreaState::Ready { slots: 2, spare: 1 },
+        },
+        "refused not-ready ready dimm=0x00000101\n",
+    ),
+    (Status::Ready, "refused not-ready ready\n"),
+    (
+        Status::Unusable(Rule::Empty),
+        "refused not-ready unusable rule=empty\n",
+    ),
+    (
+        Status::Clash {
+            first: U1,
+            second: U2,
+        },
+        "refused not-ready clash first=0f6b1a52-7c3e-4d28-9a41-5be0c7d2e813 \
+second=0f6b1a52-7c3e-4d28-9a41-5be0c7d2e814\n",
+    ),
 ];
 
 /// The modes of the GUIDs 18633BFC-.., 266400BA-.., 97A86D9C-.. of address abstractions, of none, and of another one.
@@ -177,13 +246,13 @@ fn says(rt: &impl Abort, alloc: Global, reply: &Reply, text: &str) -> Result<(),
     Ok(())
 }
 
-/// The refusal has this text, and it takes no more room.
-fn refuses(rt: &impl Abort, refusal: Refusal, text: &str) {
-    let mut room = [b'.'; 512];
-    let end = short_text(&Reply::Refused(refusal), &mut room);
+/// The reply is no list and has this text.
+fn says_alone(rt: &impl Abort, reply: &Reply, text: &str)
+    requires { is_one_line reply.now ≡ true }
+{
+    let mut room = [0; 512];
+    let end = short_text(reply, &mut room);
     assert_eq!(rt; &room[..end], text.as_bytes());
-    assert_eq!(rt; room[end..].first().copied(), Some(b'.'));
-    assert_eq!(rt; refusal_line(refusal).as_bytes(), text.as_bytes());
 }
 
 /// A namespace of a region of two ways, 8 GiB of each.
@@ -248,32 +317,18 @@ fn region(alloc: Global, status: Status) -> RegionView {
 #[test]
 fn refusals(rt: HostRuntime) {
     for (refusal, text) in REFUSALS {
-        refuses(&rt, refusal, text);
+        says_alone(&rt, &Reply::Refused(refusal), text);
+    }
+    for (status, text) in STATUSES {
+        assert_eq!(rt;
+            refusal_line(Refusal::NotReady { status }).as_bytes(),
+            text.as_bytes()
+        );
     }
 }
 
 #[test]
-fn word_faults(rt: HostRuntime) {
-    for (fault, text) in WORD_FAULTS {
-        refuses(&rt, Refusal::Words(fault), text);
-    }
-}
-
-#[test]
-fn translate_faults(rt: HostRuntime) {
-    for (fault, text) in TRANSLATE_FAULTS {
-        refuses(&rt, Refusal::NoTranslation { fault }, text);
-    }
-}
-
-#[test]
-fn words(rt: HostRuntime) {
-    for (rule, word) in RULES {
-        assert_eq!(rt; rule_word(rule), word);
-    }
-    for (state, word) in STATES {
-        assert_eq!(rt; state_word(state), word);
-    }
+fn modes(rt: HostRuntime) {
     for (abstraction, word) in MODES {
         assert_eq!(rt; mode_word(&abstraction), word);
     }
@@ -282,39 +337,22 @@ fn words(rt: HostRuntime) {
 
 #[test]
 fn lines_alone(rt: HostRuntime) -> Result<(), Fail> {
-    let alloc = rt.alloc();
-    let reply = Reply::Initialised { dimm: 1, slots: 2 };
     let text = "ok initialised dimm=0x00000001 slots=2\n";
-    says(&rt, alloc, &reply, text)?;
     assert_eq!(rt; initialised_line(1, 2).as_bytes(), text.as_bytes());
+    says_alone(&rt, &Reply::Initialised { dimm: 1, slots: 2 }, text);
     let reply = Reply::Module {
         dimm: 0x101,
         dpa: 0x1005,
     };
-    let text = "ok dimm=0x00000101 dpa=0x0000000000001005\n";
-    says(&rt, alloc, &reply, text)?;
+    says_alone(&rt, &reply, "ok dimm=0x00000101 dpa=0x0000000000001005\n");
     let reply = Reply::Spa { spa: u64::MAX };
-    says(&rt, alloc, &reply, "ok spa=0xffffffffffffffff\n")?;
-    says(
-        &rt,
-        alloc,
-        &Reply::Refused(Refusal::Outside),
-        "refused outside\n",
-    )
+    says(&rt, rt.alloc(), &reply, "ok spa=0xffffffffffffffff\n")
 }
 
 #[test]
 fn namespaces(rt: HostRuntime) -> Result<(), Fail> {
     let alloc = rt.alloc();
-    let mut listed = List::new(alloc);
-    says(
-        &rt,
-        alloc,
-        &Reply::Namespaces(List::new(alloc)),
-        "ok namespaces=0\n",
-    )?;
-    listed.push(db0())?;
-    listed.push(other())?;
+    let listed = Vec::from_array(alloc, [db0(), other()])?;
     let text =
         "  namespace uuid=0f6b1a52-7c3e-4d28-9a41-5be0c7d2e813 name=db0 region=1 mode=raw sector=512 offset=0 \
 length=8589934592 size=17179869184 pending=no read-only=no
@@ -323,35 +361,40 @@ name=%25%22%20%E9xxxxxxxxxxxxxxxxxxxxxxxxxxxxxxxxxxxxxxxxxxxxxxxxxxxxxxxxxxxx re
 offset=2097152 length=18446744073709551615 size=18446744073709551615 pending=yes read-only=yes
 ok namespaces=2
 ";
-    says(&rt, alloc, &Reply::Namespaces(listed), text)
+    says(&rt, alloc, &Reply::Namespaces(List::from_vec(listed)), text)
 }
 
 #[test]
 fn regions(rt: HostRuntime) -> Result<(), Fail> {
     let alloc = rt.alloc();
-    let mut regions = List::new(alloc);
-    regions.push(region(alloc, Status::Ready))?;
-    regions.push(region(alloc, MISSING))?;
-    regions.push(region(alloc, Status::Unusable(Rule::Overflow)))?;
+    let missing = Status::Area {
+        dimm: 0x101,
+        state: AreaState::Missing,
+    };
+    let regions = [
+        region(alloc, Status::Ready),
+        region(alloc, missing),
+        region(alloc, Status::Unusable(Rule::Overflow)),
+    ];
+    let regions = Vec::from_array(alloc, regions)?;
     let text =
         "  region index=1 spa=0x0000000100000000 size=134217728 ways=2 cookie=0x0002e2420000346b status=ready
   region index=1 spa=0x0000000100000000 size=134217728 ways=2 cookie=0x0002e2420000346b status=missing dimm=0x00000101
   region index=1 spa=0x0000000100000000 size=134217728 status=unusable rule=overflow
 ok regions=3
 ";
-    says(&rt, alloc, &Reply::Regions(regions), text)
+    says(&rt, alloc, &Reply::Regions(List::from_vec(regions)), text)
 }
 
 #[test]
 fn free_extents(rt: HostRuntime) -> Result<(), Fail> {
     let alloc = rt.alloc();
-    let mut extents = List::new(alloc);
-    extents.push(Extent {
+    let extent = Extent {
         start: 10_485_760,
         len: 56_623_104,
-    })?;
+    };
     let reply = Reply::Free {
-        extents,
+        extents: List::from_vec(Vec::from_array(alloc, [extent])?),
         largest: 113_246_208,
     };
     let text = "  free offset=10485760 length=56623104\nok free=1 largest=113246208\n";
@@ -361,8 +404,7 @@ fn free_extents(rt: HostRuntime) -> Result<(), Fail> {
 #[test]
 fn held_labels(rt: HostRuntime) -> Result<(), Fail> {
     let alloc = rt.alloc();
-    let mut held = List::new(alloc);
-    held.push(Held {
+    let label = Held {
         uuid: U1,
         dpa: 0,
         size: 2_097_152,
@@ -370,7 +412,8 @@ fn held_labels(rt: HostRuntime) -> Result<(), Fail> {
         read_only: false,
         updating: true,
         region: Some(1),
-    })?;
+    };
+    let held = List::from_vec(Vec::from_array(alloc, [label])?);
     let text =
         "  held uuid=0f6b1a52-7c3e-4d28-9a41-5be0c7d2e813 dpa=0x0000000000000000 size=2097152 local=no \
 read-only=no updating=yes
@@ -382,13 +425,20 @@ ok held=1 spare=509
 #[test]
 fn runs(rt: HostRuntime) -> Result<(), Fail> {
     let alloc = rt.alloc();
-    let mut runs = List::new(alloc);
-    for (dimm, dpa, length) in [(1, 0x1000, 4096), (0x101, 0, 8192)] {
-        runs.push(Run { dimm, dpa, length })?;
-    }
+    let first = Run {
+        dimm: 1,
+        dpa: 0x1000,
+        length: 4096,
+    };
+    let second = Run {
+        dimm: 0x101,
+        dpa: 0,
+        length: 8192,
+    };
+    let runs = Vec::from_array(alloc, [first, second])?;
     let text = "  run dimm=0x00000001 dpa=0x0000000000001000 length=4096
   run dimm=0x00000101 dpa=0x0000000000000000 length=8192
 ok runs=2
 ";
-    says(&rt, alloc, &Reply::Runs(runs), text)
+    says(&rt, alloc, &Reply::Runs(List::from_vec(runs)), text)
 }
