@@ -1,0 +1,5 @@
+pub mod Numbers
+pub mod Words
+pub mod Refusals
+pub mod Lines
+pub mod Texts
