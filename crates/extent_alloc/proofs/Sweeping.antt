@@ -1,5 +1,5 @@
 -- The gaps between ranges that are taken from the last one on.
-use Rattle.std.proofs.Common.{◌≡◌, ◌⊎◌, inl, inr, ℕ, ◌+◌, ◌-◌, ◌≤◌, ◌<◌, ◌^◌, min, Bool, true, false, not, ◌&&◌, List, [], ◌∷◌, ◌++◌, length, get_or, take, refl, sym, ap, ◌∙◌, subst, arith}
+use Rattle.std.proofs.Common.{◌≡◌, ◌⊎◌, inl, inr, ℕ, ◌+◌, ◌-◌, ◌≤◌, ◌<◌, ◌^◌, min, Bool, true, false, not, ◌&&◌, List, [], ◌∷◌, ◌++◌, length, get_or, refl, sym, ap, ◌∙◌, subst, arith}
 use Rattle.std.specs.Prelude.{◌||◌, nat_lt}
 use Rattle.std.specs.List.Sorted.{IsNonDecreasingBy, IsPermutation}
 use Rattle.std.proofs.Math.ListN.{get_or-append}
@@ -11,7 +11,7 @@ use Rattle.std.proofs.lemmas.List.Elements.{All-from_get_or}
 use Rattle.std.proofs.lemmas.List.Folds.{list_any-append, list_any_none}
 use Rattle.std.proofs.lemmas.List.Sorted.{IsNonDecreasingBy-take, list_any-IsPermutation}
 use Rattle.view_types.specs.declared.extents.Extent.{Extent}
-use Rattle.view_types.specs.Intervals.{end_of, is_within, is_free, Ascend, AreMaximal}
+use Rattle.view_types.specs.Intervals.{is_within, is_free, Ascend, AreMaximal}
 use Rattle.view_types.proofs.Intervals.{none_below, within_yes, within_below, within_above, ascend_from}
 use Rattle.extent_alloc.specs.Free.{is_outside, is_taken, kept}
 use Rattle.extent_alloc.specs.Gaps.{AreFoundFrom, end_in_64_bits}

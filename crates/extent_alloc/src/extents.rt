@@ -49,7 +49,7 @@ impl Extents {
     }
 
     /// The offsets of a whole of `whole` bytes that are in none of some ranges. These may stand in any order, overlap,
-    /// be empty, and end past the whole or past 2^64. It sorts them.
+    /// be empty, and end past the whole or past 2^64. They are sorted, and then walked once, from the last one on.
     pub fn outside(
         alloc: Global,
         whole: u64,

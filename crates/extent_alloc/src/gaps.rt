@@ -39,7 +39,8 @@ fn put_first<L: Ledger>(chain: &mut Chain, extent: Extent, blank: Blank)
     chain.insert_after(None, extent, &mut steps);
 }
 
-/// Puts the offsets from the last range's end to `end` before those of a chain. Gives the end of what is left.
+/// Puts the offsets between the last range that is left and `end` before those of a chain. Gives the end of those that
+/// the other ranges may have.
 pub(crate) fn put_gap(chain: &mut Chain, range: Extent, end: u64) -> Result<u64, AllocError>
     ensures found { (whole : ℕ) (ranges left : List Extent) → whole < 2 ^ 64
         → AreFoundFrom end whole ranges (left ++ range ∷ []) (extents_of chain.old.links)

@@ -1,5 +1,4 @@
-use Rattle.std.proofs.Common.{◌≡◌, ◌-◌, min, sym, ap, ◌∙◌, subst, arith}
-use Rattle.view_types.specs.declared.extents.Extent.{Extent}
+use Rattle.std.proofs.Common.{min, sym, ap, ◌∙◌, subst, arith}
 use Rattle.extent_alloc.specs.Chains.{extents_of}
 use Rattle.extent_alloc.specs.Free.{kept}
 use Rattle.extent_alloc.specs.Gaps.{AreFoundFrom}
