@@ -28,7 +28,7 @@ ascend_kept f whole e es ge le up = elim (cases_lt 0 e.len) [
   | inr none ↦ subst (Ascend f whole) (sym (kept-empty e es (omega arith))) (ascend_from f (end_of e + 1) whole es (omega arith) up)
 ]
 
-free_kept : (e : Extent) (es : List Extent) (o : ℕ) → is_free (kept e es) o ≡ (is_within e.start e.len o || is_free es o)
+pub free_kept : (e : Extent) (es : List Extent) (o : ℕ) → is_free (kept e es) o ≡ (is_within e.start e.len o || is_free es o)
 free_kept e es o = elim (cases_lt 0 e.len) [
   | inl some ↦ ap (λ xs. is_free xs o) (kept-some e es some)
   | inr none ↦

@@ -8,7 +8,7 @@ use Rattle.extent_alloc.specs.Chains.{first_at, times}
 use Rattle.extent_alloc.specs.Linked.{links_in, IsDoublyLinked}
 use Rattle.extent_alloc.proofs.Chains.{Keeps}
 use Rattle.extent_alloc.proofs.Unwinding.{times-first, times-untaken, length-taken}
-use Rattle.extent_alloc.proofs.Linked.{linked, linked_keeps, times-outside, Becomes, becomes}
+use Rattle.extent_alloc.proofs.Linked.{linked_keeps, times-outside, Becomes, becomes}
 
 pub grown : (chain new : Inside) → IsDoublyLinked chain → new.first ≡ chain.first → new.len ≡ chain.len
     → times (length chain.pool.nodes) chain.pool.idle ≡ 0 → first_at new.pool.idle ≡ Some (length chain.pool.nodes) → drop 1 new.pool.idle ≡ chain.pool.idle → length new.pool.nodes ≡ length chain.pool.nodes + 1

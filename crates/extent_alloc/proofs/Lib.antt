@@ -11,4 +11,5 @@ pub mod Releasing
 pub mod Removing
 pub mod Replacing
 pub mod Resetting
+pub mod Sweeping
 pub mod Unwinding

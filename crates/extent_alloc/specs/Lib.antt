@@ -4,6 +4,7 @@ pub mod Changes
 pub mod Cuts
 pub mod Fits
 pub mod Free
+pub mod Gaps
 pub mod Growth
 pub mod Linked
 pub mod Pool

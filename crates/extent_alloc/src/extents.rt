@@ -4,16 +4,17 @@ ghost use Rattle.std.specs.Prelude.{◌≡◌, ◌+◌, ◌<◌, ◌≤◌, [], 
 ghost use Rattle.view_types.specs.Intervals.{AllFree, NoneFree, AreMaximal, IsFirstFit, NoneFits};
 ghost use Rattle.view_types.specs.Intervals.{is_free, without_range, with_range, greatest_aligned};
 ghost use Rattle.extent_alloc.specs.Chains.{extents_of};
-ghost use Rattle.extent_alloc.specs.Free.{kept};
+ghost use Rattle.extent_alloc.specs.Free.{is_outside, kept};
 
 use crate::chain::Chain;
 use crate::cuts::{cut_at, put, replace};
 use crate::fits::{aligned_len, fit_in};
+use crate::gaps::{put_front, put_gap};
 use crate::iter::Iter;
 use crate::steps::Steps;
 use std::alloc::{AllocError, Global};
-use std::marker::{Brand, Model};
-use std::sync::ledger::{Blank, Ledger};
+use std::marker::Model;
+use std::sync::ledger::Ledger;
 use view_types::Extent;
 
 /// The free extents of a whole: the maximal intervals of its free offsets, in ascending order. Contracts see them as
@@ -43,12 +44,29 @@ impl Extents {
             record { extents = kept (record { start = 0; len = len }) []; whole = len; spare = 0 }) }
     {
         let mut chain = Chain::new(alloc);
-        if len == 0 {
-            return Ok(Extents { chain, whole: len });
-        }
-        chain.grow()?;
-        put_first::<Brand>(&mut chain, Extent { start: 0, len }, Blank::new(1));
+        put_front(&mut chain, Extent { start: 0, len })?;
         Ok(Extents { chain, whole: len })
+    }
+
+    /// The offsets of a whole of `whole` bytes that are in none of some ranges. These may stand in any order, overlap,
+    /// be empty, and end past the whole or past 2^64. They are sorted, and then walked once, from the last one on.
+    pub fn outside(
+        alloc: Global,
+        whole: u64,
+        mut ranges: Vec<Extent>,
+    ) -> Result<Extents, AllocError>
+        ensures extents { IfOk result (λ free. AreMaximal whole (is_outside whole ranges.items) free.extents) }
+        ensures whole { IfOk result (λ free. free.whole ≡ whole) }
+        ensures spare { IfOk result (λ free. free.spare ≡ 0) }
+    {
+        ranges.sort_unstable_by_key(|range| range.start.saturating_add(range.len));
+        let mut chain = Chain::new(alloc);
+        let mut end = whole;
+        while let Some(range) = ranges.pop() {
+            end = put_gap(&mut chain, range, end)?;
+        }
+        put_front(&mut chain, Extent { start: 0, len: end })?;
+        Ok(Extents { chain, whole })
     }
 
     /// Makes room for `n` more extents, so that as many calls of `carve` and `release` have what they need. The
@@ -175,18 +193,4 @@ impl Extents {
             whole: self.whole,
         })
     }
-}
-
-/// Puts the first extent into a chain. Nobody counts its steps.
-fn put_first<L: Ledger>(chain: &mut Chain, extent: Extent, blank: Blank)
-    requires name { blank.name ≡ L.name }
-    requires parts { blank.parts ≡ L.parts }
-    requires some { 0 < blank.parts }
-    requires none { chain.old.links ≡ [] }
-    requires spare { 0 < chain.old.spare }
-    ensures extents { extents_of chain.new.links ≡ extent ∷ [] }
-    ensures spare { chain.new.spare + 1 ≡ chain.old.spare }
-{
-    let mut steps = Steps::<L>::new(blank);
-    chain.insert_after(None, extent, &mut steps);
 }

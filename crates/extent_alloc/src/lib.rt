@@ -5,6 +5,7 @@ mod chain;
 mod cuts;
 mod extents;
 mod fits;
+mod gaps;
 mod iter;
 mod pool;
 mod steps;

@@ -108,3 +108,60 @@ fn near_the_end<L: Ledger>(rt: &impl Abort, alloc: Global, blank: Blank) -> Resu
 fn wide_wholes(rt: HostRuntime) -> Result<(), Fail> {
     near_the_end::<Brand>(&rt, rt.alloc(), Blank::new(1))
 }
+
+/// The offsets of a whole outside of some ranges are these extents, all as pairs of start and length.
+fn leave(
+    rt: &impl Abort,
+    alloc: Global,
+    whole: u64,
+    ranges: &[(u64, u64)],
+    want: &[(u64, u64)],
+) -> Result<(), Fail> {
+    let ranges: Vec<Extent> = ranges
+        .iter()
+        .map(|&(start, len)| Extent { start, len })
+        .collect(alloc)?;
+    let free = Extents::outside(alloc, whole, ranges)?;
+    assert!(rt; is_listed(alloc, &free, want)?);
+    Ok(())
+}
+
+#[test]
+fn outside_of_one_range(rt: HostRuntime) -> Result<(), Fail> {
+    let alloc = rt.alloc();
+    leave(&rt, alloc, 100, &[], &[(0, 100)])?;
+    leave(&rt, alloc, 100, &[(0, 10)], &[(10, 90)])?;
+    leave(&rt, alloc, 100, &[(90, 10)], &[(0, 90)])?;
+    leave(&rt, alloc, 100, &[(90, 20)], &[(0, 90)])?;
+    leave(&rt, alloc, 100, &[(100, 1)], &[(0, 100)])?;
+    leave(&rt, alloc, 100, &[(30, 0)], &[(0, 100)])?;
+    leave(&rt, alloc, 100, &[(0, 100)], &[])?;
+    leave(&rt, alloc, 0, &[(0, 10)], &[])?;
+    Ok(())
+}
+
+#[test]
+fn outside_of_ranges(rt: HostRuntime) -> Result<(), Fail> {
+    let alloc = rt.alloc();
+    let apart = [(0, 10), (20, 20), (50, 50)];
+    leave(&rt, alloc, 100, &[(40, 10), (10, 10)], &apart)?;
+    leave(&rt, alloc, 100, &[(40, 20), (10, 40)], &[(0, 10), (60, 40)])?;
+    leave(
+        &rt,
+        alloc,
+        100,
+        &[(10, 50), (20, 0), (20, 10)],
+        &[(0, 10), (60, 40)],
+    )?;
+    leave(&rt, alloc, 100, &[(20, 10), (20, 10)], &[(0, 20), (30, 70)])?;
+    leave(&rt, alloc, 100, &[(30, 10), (20, 10)], &[(0, 20), (40, 60)])?;
+    let last = u64::MAX;
+    leave(
+        &rt,
+        alloc,
+        last,
+        &[(last, last), (last - 9, 20)],
+        &[(0, last - 9)],
+    )?;
+    Ok(())
+}
