@@ -19,7 +19,12 @@ fn read_whole<R: Rig>(rig: &mut R, dimm: u32, into: &mut [u8]) -> Result<bool, F
 }
 
 /// Writes into an area, and says whether it has the range.
-fn write_inside<R: Rig>(rig: &mut R, dimm: u32, at: u64, bytes: &[u8]) -> Result<bool, Failed> {
+pub(crate) fn write_inside<R: Rig>(
+    rig: &mut R,
+    dimm: u32,
+    at: u64,
+    bytes: &[u8],
+) -> Result<bool, Failed> {
     match rig.size(dimm)? {
         Some(size) if at <= size && bytes.len() as u64 <= size - at => {
             rig.write(dimm, at, bytes)?;
