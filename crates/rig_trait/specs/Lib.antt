@@ -3,8 +3,15 @@ pub mod Records
 pub mod Faults
 pub mod Frames
 pub mod Counts
+pub mod Kept
 pub mod Memory
+pub mod Undone
+pub mod Crashed
+pub mod InKept
+pub mod Shows
+pub mod InMemory
 pub mod MemorySource
+pub mod InSource
 pub mod Files
 pub mod TwoWrites
 pub mod Sources
