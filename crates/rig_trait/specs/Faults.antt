@@ -1,5 +1,5 @@
 -- How the calls that fail are counted.
-use Rattle.std.specs.Prelude.{ℕ, ◌+◌, ◌-◌, ◌^◌, ◌≤◌, min, Bool, true, false}
+use Rattle.std.specs.Prelude.{ℕ, ◌+◌, ◌-◌, ◌^◌, min, Bool, true, false}
 
 -- a count after one more: it stays at its last value
 abbrev pub one_more : ℕ → ℕ
@@ -9,7 +9,3 @@ one_more count = min (count + 1) (2 ^ 64 - 1)
 abbrev pub counted : Bool → ℕ → ℕ
 counted true count = one_more count
 counted false count = count
-
--- a count rose, or stands at its last value
-abbrev pub HasRisen : ℕ → ℕ → Type 0
-HasRisen before now = one_more before ≤ now

@@ -4,7 +4,9 @@ pub mod Faults
 pub mod Frames
 pub mod Counts
 pub mod Memory
+pub mod InMemory
 pub mod MemorySource
+pub mod InSource
 pub mod Files
 pub mod TwoWrites
 pub mod Sources

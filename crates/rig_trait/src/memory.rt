@@ -7,7 +7,7 @@ ghost use Rattle.std.specs.Result.{is_err};
 ghost use Rattle.byte_ranges.specs.Ranges.{patched};
 ghost use Rattle.rig_trait.specs.Areas.{IsWithin, size_in, written};
 ghost use Rattle.rig_trait.specs.Counts.{read_counted, fault_counted, say_fault_counted};
-ghost use Rattle.rig_trait.specs.Faults.{HasRisen, one_more};
+ghost use Rattle.rig_trait.specs.Faults.{one_more};
 ghost use Rattle.rig_trait.specs.Frames.{IsTold, Reads, WritesTo, SaysOnly, FailsAt, GivesBytes, WritesBytes, WriteLeaves, SayLeaves};
 ghost use Rattle.rig_trait.specs.Records.{Says};
 ghost use Rattle.rig_trait.specs.Memory.{new_memory, areas_of};
@@ -32,16 +32,17 @@ pub struct MemoryRig {
 }
 
 impl Model for MemoryRig {
-    ghost use Rattle.std.specs.Prelude.{◌≤◌, vec_len, vec_capacity};
-    ghost use Rattle.rig_trait.specs.Memory.{Memory, memory_code, areas_of};
+    ghost use Rattle.rig_trait.specs.Memory.{Memory, memory_code};
 
     ghost Value = { Memory };
 
     ghost coded = { memory_code };
 
-    ghost view = { λ rig. record { areas = areas_of rig.areas; said = rig.said.items; room = rig.room; listed = rig.listed.items; calls = rig.calls; counts = rig.counts } };
+    ghost use Rattle.rig_trait.specs.InMemory.{memory_in, HasRoom};
 
-    ghost invariant = { λ rig. (vec_len rig.said ≤ rig.room) × (rig.room ≤ vec_capacity rig.said) };
+    ghost view = { memory_in };
+
+    ghost invariant = { HasRoom };
 }
 
 impl MemoryRig {
@@ -168,7 +169,7 @@ impl Rig for MemoryRig {
             → IfOk result (λ size. size ≡ size_in self.old.areas dimm) }
         ensures reads_only { Reads ⟦<MemoryRig as Shown>⟧ self.old self.new }
         ensures cause { FailsAt dimm ⟦<MemoryRig as Shown>⟧ self.old self.new (is_err result) }
-        ensures reads { HasRisen self.old.counts.reads self.new.counts.reads }
+        ensures reads { self.new.counts.reads ≡ one_more self.old.counts.reads }
     {
         self.counts.count_read();
         if self.is_listed() {
@@ -192,7 +193,7 @@ impl Rig for MemoryRig {
         ensures bytes { GivesBytes ⟦<MemoryRig as Shown>⟧ self.old dimm at (length into.old) into.new result }
         ensures reads_only { Reads ⟦<MemoryRig as Shown>⟧ self.old self.new }
         ensures cause { FailsAt dimm ⟦<MemoryRig as Shown>⟧ self.old self.new (is_err result) }
-        ensures reads { HasRisen self.old.counts.reads self.new.counts.reads }
+        ensures reads { self.new.counts.reads ≡ one_more self.old.counts.reads }
     {
         self.counts.count_read();
         if self.is_listed() {

@@ -21,14 +21,16 @@ pub struct MemorySource {
 }
 
 impl Model for MemorySource {
-    ghost use Rattle.std.specs.Prelude.{◌≤◌, drop, vec_len};
+    ghost use Rattle.std.specs.Prelude.{◌≤◌, vec_len};
     ghost use Rattle.rig_trait.specs.MemorySource.{Input, input_code};
 
     ghost Value = { Input };
 
     ghost coded = { input_code };
 
-    ghost view = { λ source. record { left = drop source.at source.bytes.items; listed = source.listed.items; calls = source.calls; faults = source.faults } };
+    ghost use Rattle.rig_trait.specs.InSource.{input_in};
+
+    ghost view = { input_in };
 
     ghost invariant = { λ source. source.at ≤ vec_len source.bytes };
 }

@@ -3,7 +3,7 @@
 ghost use Rattle.std.specs.Prelude.{◌≡◌, length, IfOk};
 ghost use Rattle.std.specs.Result.{is_err};
 ghost use Rattle.rig_trait.specs.Areas.{IsWithin, size_in};
-ghost use Rattle.rig_trait.specs.Faults.{HasRisen};
+ghost use Rattle.rig_trait.specs.Faults.{one_more};
 ghost use Rattle.rig_trait.specs.Frames.{IsTold, Reads, WritesTo, SaysOnly, FailsAt, GivesBytes, WritesBytes, WriteLeaves, SayLeaves};
 ghost use Rattle.rig_trait.specs.Records.{Says};
 
@@ -23,7 +23,7 @@ pub trait Rig: Shown {
         ensures size { IsTold Self.Shown self.old → IfOk result (λ size. size ≡ size_in (Self.areas self.old) dimm) }
         ensures reads_only { Reads Self.Shown self.old self.new }
         ensures cause { FailsAt dimm Self.Shown self.old self.new (is_err result) }
-        ensures reads { HasRisen (Self.reads self.old) (Self.reads self.new) };
+        ensures reads { Self.reads self.new ≡ one_more (Self.reads self.old) };
 
     /// The bytes of an area from the offset `at` on, as many as `into` has.
     fn read(&mut self, dimm: u32, at: u64, into: &mut [u8]) -> Result<(), Failed>
@@ -31,7 +31,7 @@ pub trait Rig: Shown {
         ensures bytes { GivesBytes Self.Shown self.old dimm at (length into.old) into.new result }
         ensures reads_only { Reads Self.Shown self.old self.new }
         ensures cause { FailsAt dimm Self.Shown self.old self.new (is_err result) }
-        ensures reads { HasRisen (Self.reads self.old) (Self.reads self.new) };
+        ensures reads { Self.reads self.new ≡ one_more (Self.reads self.old) };
 
     /// Puts bytes into an area, from the offset `at` on. At `Ok` they stand there and are durable. A write that fails,
     /// or within which all stops, leaves any bytes in its range. All other bytes of all areas stay as they were.
@@ -61,7 +61,7 @@ pub trait Rig: Shown {
     fn failed_dimm(&self) -> u32
         ensures { result ≡ Self.failed_dimm self.now };
 
-    /// How often `size` and `read` were called.
+    /// How often `size` and `read` were called. A count that has reached its last value stays there.
     fn reads(&self) -> u64
         ensures { result ≡ Self.reads self.now };
 }
