@@ -151,8 +151,12 @@ impl Area {
         requires next { IsNext self.old next.now }
         requires bits { (k : ℕ) → k < self.old.geometry.slots → is_among freed.now k ≡ false
             → is_free_in self.old.free k ≡ false → is_free_in next.now.free k ≡ false }
-        ensures rest { self.new
-            ≡ record self.old { place = next.now.place; seq = next.now.seq; free = self.new.free; live = self.new.live } }
+        ensures rest { self.new ≡ record self.old {
+          place = next.now.place;
+          seq = next.now.seq;
+          free = self.new.free;
+          live = self.new.live;
+        } }
         ensures bits { (k : ℕ) → k < self.old.geometry.slots
             → is_free_in self.new.free k ≡ is_free_in next.now.free k }
         ensures live { (k : ℕ) → get self.new.live k ≡ (if is_among freed.now k then None else get self.old.live k) }

@@ -1,6 +1,6 @@
 //! How an area is loaded.
 
-ghost use Rattle.std.specs.Prelude.{◌≡◌, None, Some, vec_len, IfErr, IfOk};
+ghost use Rattle.std.specs.Prelude.{◌≡◌, ◌+◌, ◌≤◌, None, Some, vec_len, IfErr, IfOk};
 ghost use Rattle.std.specs.FinMap.{get};
 ghost use Rattle.rig_trait.specs.Areas.{size_in};
 ghost use Rattle.rig_trait.specs.Frames.{FailsAt, IsTold, Reads};
@@ -87,6 +87,7 @@ impl Area {
         ensures sound { IfOk result IsSound }
         ensures reads_only { Reads R.Shown rig.old rig.new }
         ensures cause { FailsAt dimm R.Shown rig.old rig.new (is_load_failed result) }
+        ensures reads { R.reads rig.new ≤ R.reads rig.old + 2 }
     {
         let Some(size) = rig.size(dimm)? else {
             return Err(AreaFault::Missing);
@@ -119,6 +120,7 @@ fn read_whole<R: Rig>(
     ensures unknown { IfErr result (λ fault. load_kind fault ≡ None) }
     ensures reads_only { Reads R.Shown rig.old rig.new }
     ensures cause { FailsAt dimm R.Shown rig.old rig.new (is_load_failed result) }
+    ensures reads { R.reads rig.new ≤ R.reads rig.old + 1 }
 {
     let mut bytes = vec![in alloc; 0; size as usize]?;
     rig.read(dimm, 0, &mut bytes)?;
