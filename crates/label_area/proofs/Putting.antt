@@ -1,6 +1,6 @@
 -- What a flip that puts a label leaves, and shows.
 use Rattle.std.proofs.Common.{◌≡◌, ◌≢◌, ◌⊎◌, inl, inr, ℕ, zero, suc, ◌+◌, ◌*◌, ◌<◌, ◌≤◌, Bool, true, false, ◌&&◌, ◌||◌, cond, eqb, List, length, Option, Some, None, Result, Ok, Err, refl, sym, ap, ◌∙◌, subst, eq-eqb, eqb-true, arith}
-use Rattle.std.specs.Prelude.{if◌then◌else◌, nat_lt, not, IfSome, IsSome, IsTrue, OnErr, OnOk, ◌==◌}
+use Rattle.std.specs.Prelude.{if◌then◌else◌, nat_lt, not, IfSome, IsSome, OnErr, OnOk, ◌==◌}
 use Rattle.std.specs.FinMap.{get}
 use Rattle.std.specs.List.{All}
 use Rattle.std.proofs.lemmas.Bool.{and_right, cases_lt, false≢true}

@@ -1,6 +1,6 @@
 -- The writes of a flip (UEFI 2.7, section 13.19): a label into a free slot, where one is put, and then the index block at
 -- the place that isn't current.
-use Rattle.std.specs.Prelude.{◌≡◌, ℕ, ◌<◌, true, if◌then◌else◌, None, length, Result, IsTrue, OnErr, OnOk}
+use Rattle.std.specs.Prelude.{◌≡◌, ℕ, ◌<◌, if◌then◌else◌, None, length, Result, IsTrue, OnErr, OnOk}
 use Rattle.std.specs.FinMap.{get}
 use Rattle.rig_trait.specs.declared.rig.Failed.{Failed}
 use Rattle.rig_trait.specs.declared.shown.Shown.{Ghosts}

@@ -1,4 +1,4 @@
-use Rattle.std.proofs.Common.{◌≡◌, ◌<◌, ◌||◌, ℕ, Option, Some, None, false, cond, List, sym, ap, subst, ◌∙◌, eq-eqb, refl}
+use Rattle.std.proofs.Common.{◌<◌, ◌||◌, ℕ, Option, Some, false, cond, List, sym, ap, subst, ◌∙◌, eq-eqb, refl}
 use Rattle.std.specs.Prelude.{◌==◌}
 use Rattle.std.specs.List.{All}
 use Rattle.rig_trait.specs.Frames.{LeavesOnly}
