@@ -34,15 +34,16 @@ pub first_slot-is : (area : LoadedArea) (slot : ℕ) → IsFirstFree area.free a
 first_slot-is area slot first =
     sym (ap (λ o. unwrap_or o 0) (found (is_free_in area.free) slot 0 area.geometry.slots (omega arith) (omega (arith, first.below)) first.free (λ k from before. first.least k before)))
 
--- no label is in it
-pub none_in_free : (area : LoadedArea) → IsSound area → (slot : ℕ) → is_free_in area.free slot ≡ true → get area.live slot ≡ None
-none_in_free area sound slot free = by (get area.live slot) refl
+-- no label is in a slot that is not in use
+pub none_unused : (area : LoadedArea) → IsSound area → (slot : ℕ) → is_used area slot ≡ false → get area.live slot ≡ None
+none_unused area sound slot unused = by (get area.live slot) refl
   where
-    unused : is_used area slot ≡ false
-    unused = (λ i. nat_lt slot area.geometry.slots && not (free i)) ∙ and_right (nat_lt slot area.geometry.slots) false refl
-
     by : (label : Option Label) → get area.live slot ≡ label → get area.live slot ≡ None
     by None is = is
     by (Some label) is =
         let some : IsSome (get area.live slot) = rw is refl in
         absurd (false≢true (sym unused ∙ sound.live_in_use slot some))
+
+-- nor in one that is free
+pub none_in_free : (area : LoadedArea) → IsSound area → (slot : ℕ) → is_free_in area.free slot ≡ true → get area.live slot ≡ None
+none_in_free area sound slot free = none_unused area sound slot ((λ i. nat_lt slot area.geometry.slots && not (free i)) ∙ and_right (nat_lt slot area.geometry.slots) false refl)

@@ -6,7 +6,7 @@ use Rattle.std.specs.Option.{option_and_then}
 use Rattle.byte_ranges.specs.Ranges.{patched}
 use Rattle.rig_trait.specs.declared.rig.Failed.{Failed}
 use Rattle.rig_trait.specs.Areas.{Areas, OthersKept, written}
-use Rattle.rig_trait.specs.Records.{CrashRecord, IsTorn, IsWhole, LeftByWrite, Writes}
+use Rattle.rig_trait.specs.Records.{CrashRecord, IsTorn, IsWhole, LeftByWrite, Writes, torn_write}
 use Rattle.rig_trait.proofs.WrittenAreas.{get-written_other, writes_all}
 use Rattle.index_block.specs.declared.geometry.Geometry.{Geometry}
 use Rattle.index_block.specs.declared.geometry.Place.{Place}
@@ -21,7 +21,7 @@ use Rattle.module_labels.specs.Labels.{Module}
 use Rattle.module_labels.specs.declared.kind.AreaKind.TheVariants.{Ready}
 use Rattle.label_area.specs.declared.blocks.Current.{Current}
 use Rattle.label_area.specs.Blocks.{current_in, kind_at, place_window, seq_in, window_at}
-use Rattle.label_area.specs.Flips.{LeftByFlip, Standing, standing_at, standing_of}
+use Rattle.label_area.specs.Flips.{FailedFlip, LeftByFlip, Standing, standing_at, standing_of}
 use Rattle.label_area.specs.LoadedAreas.{IsSound, LoadedArea}
 use Rattle.label_area.specs.Loads.{IsShown}
 use Rattle.label_area.specs.Slots.{label_at}
@@ -177,6 +177,23 @@ module _ (a : LoadedArea) (sound : IsSound a) (areas : Areas) (shown : IsShown a
     left_behind said c (inl before) = left_mid said c before.0 before.1
     left_behind said c (inr (inl torn)) = left_torn said c torn
     left_behind said c (inr (inr whole)) = left_whole said c whole
+
+    -- where it failed, also in a rig that tells no records
+    pub left_failed : (said : List ℕ) {T : Type 0} (new : Areas) (result : Result T Failed) → Writes mid_areas new a.dimm at block result → FailedFlip areas new said a.dimm after
+    left_failed said new result writes =
+        let left : CrashRecord = record { areas = new; said = said; torn = Some (torn_write mid_areas a.dimm at block) } in
+        let torn : IsTorn mid_areas said a.dimm at block left = record { garbage = writes.garbage; same_length = writes.same_length; areas_are = writes.areas_are; said_is = refl; torn_is = refl } in
+        record {
+          mid = mid_areas;
+          at = at;
+          put = block;
+          left = left;
+          is_now = refl;
+          is_torn = torn;
+          before = ap standing_of stored ∙ mid_is;
+          behind = inr (ap standing_of (stored_now (written mid_areas a.dimm at block) refl) ∙ next_is);
+          flip = left_torn said left torn;
+        }
 
     -- by the write of the block alone
     pub left_by_write : {T : Type 0} (said : List ℕ) (new : Areas) (result : Result T Failed) → Writes mid_areas new a.dimm at block result → (c : CrashRecord)

@@ -4,8 +4,8 @@ use Rattle.std.specs.Prelude.{◌≡◌, ◌⊎◌, ℕ, ◌<◌, ◌==◌, ◌&
 use Rattle.std.specs.FinMap.{get}
 use Rattle.std.specs.List.{range_with_len, list_any}
 use Rattle.std.specs.Option.{option_map_or}
-use Rattle.rig_trait.specs.Areas.{Areas, OthersKept, size_in}
-use Rattle.rig_trait.specs.Records.{CrashRecord}
+use Rattle.rig_trait.specs.Areas.{Areas, OthersKept, size_in, written}
+use Rattle.rig_trait.specs.Records.{CrashRecord, IsTorn}
 use Rattle.index_block.specs.Bitmap.{free_count, is_free_in}
 use Rattle.label_codec.specs.declared.label.Label.{Label}
 use Rattle.module_labels.specs.declared.kind.AreaKind.TheVariants.{Ready}
@@ -77,8 +77,25 @@ replaced (Some slot) = slot ∷ []
 abbrev pub after_put : LoadedArea → Label → Option ℕ → Standing
 after_put area label replaces = with_label (first_slot area) label (after_free area (replaced replaces))
 
+-- the area of one module stands for what it did before, or for what it does after a flip
+abbrev pub IsBeforeOrAfter : Areas → Areas → ℕ → Standing → Type 0
+IsBeforeOrAfter before now dimm after = (standing_at now dimm ≡ standing_at before dimm) ⊎ (standing_at now dimm ≡ after)
+
 -- What a stop leaves at any moment of a flip of one module: the area as it stood before, or as it stands after.
 pub record LeftByFlip (areas : Areas) (said : List ℕ) (dimm : ℕ) (after : Standing) (c : CrashRecord) : Type 0 where
   pub said_is : c.said ≡ said
   pub others : OthersKept dimm areas c.areas
-  pub flip : IsFair c → (standing_at c.areas dimm ≡ standing_at areas dimm) ⊎ (standing_at c.areas dimm ≡ after)
+  pub flip : IsFair c → IsBeforeOrAfter areas c.areas dimm after
+
+-- What is left of a flip that failed, also in a rig that tells no records: its last write is torn. Before that write the
+-- area stood for what it did before the flip, and behind it, it would stand for that or for what it does after the flip.
+pub record FailedFlip (areas now : Areas) (said : List ℕ) (dimm : ℕ) (after : Standing) : Type 0 where
+  pub mid : Areas
+  pub at : ℕ
+  pub put : List ℕ
+  pub left : CrashRecord
+  pub is_now : left.areas ≡ now
+  pub is_torn : IsTorn mid said dimm at put left
+  pub before : standing_at mid dimm ≡ standing_at areas dimm
+  pub behind : IsBeforeOrAfter areas (written mid dimm at put) dimm after
+  pub flip : LeftByFlip areas said dimm after left

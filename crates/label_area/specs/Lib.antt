@@ -9,3 +9,4 @@ pub mod Loads
 pub mod Fair
 pub mod Inits
 pub mod Flips
+pub mod FlipWrites

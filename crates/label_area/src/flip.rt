@@ -1,29 +1,25 @@
 //! How an area is changed: by flips.
 
-ghost use Rattle.std.specs.Prelude.{◌≡◌, ◌+◌, ◌*◌, ◌<◌, ◌≤◌, ◌==◌, ◌||◌, ℕ, None, Some, false, if◌then◌else◌, length, slice_index_or, IfOk, IfSome, IsSome, IsTrue, OnErr, OnOk};
+ghost use Rattle.std.specs.Prelude.{◌≡◌, ◌*◌, ◌<◌, ◌≤◌, ◌==◌, ◌||◌, ℕ, None, Some, false, if◌then◌else◌, length, slice_index_or, IfOk, IfSome, IsSome, IsTrue, OnErr, OnOk};
 ghost use Rattle.std.specs.List.{All};
 ghost use Rattle.std.specs.Result.{is_err};
 ghost use Rattle.index_block.specs.Bitmap.{IsFirstFree, is_free_in};
-ghost use Rattle.index_block.specs.Current.{IsSeq};
-ghost use Rattle.index_block.specs.Geometry.{IsGeometry, bitmap_len, place_offset, slot_offset};
-ghost use Rattle.index_block.specs.Written.{block_text};
-ghost use Rattle.rig_trait.specs.Areas.{size_in};
-ghost use Rattle.rig_trait.specs.Frames.{FailsAt, IsTold, LeavesOnly, WriteLeaves, WritesBytes, WritesTo};
-ghost use Rattle.rig_trait.specs.TwoWrites.{LeavesTwo, WritesBoth};
-ghost use Rattle.label_area.specs.Flips.{HasFree, IsSized, LeftByFlip, after_free, after_put, at_slot, first_slot, is_among, replaced, shown_by};
+ghost use Rattle.index_block.specs.Geometry.{bitmap_len};
+ghost use Rattle.rig_trait.specs.Frames.{FailsAt, IsTold, LeavesOnly, WritesTo};
+ghost use Rattle.label_codec.specs.declared.label.Label.{Label};
+ghost use Rattle.label_area.specs.FlipWrites.{IsNext, with_bits};
+ghost use Rattle.label_area.specs.Flips.{FailedFlip, HasFree, IsSized, LeftByFlip, after_free, after_put, first_slot, is_among, replaced, shown_by, with_label};
 ghost use Rattle.label_area.specs.Loads.{IsShown};
-ghost use Rattle.label_area.specs.LoadedAreas.{is_used};
+ghost use Rattle.label_area.specs.LoadedAreas.{IsSound, is_used};
+ghost use Rattle.label_area.specs.Slots.{bitmap_bytes};
 
 use crate::area::Area;
-use index_block::{
-    Geometry, Place, WINDOW_BYTES, first_free, next_seq, set_free, set_used, write_block,
-};
-use label_codec::{LABEL_LEN, Label, write_label};
+use crate::blocks::BITMAP_BYTES;
+use crate::flip_writes::Next;
+use index_block::{first_free, set_free, set_used};
+use label_codec::Label;
 use rig_trait::{Failed, Rig};
 use std::slice::from_ref;
-
-/// The bytes of a bitmap for as many slots as an area can have.
-const BITMAP: usize = 512;
 
 impl Area {
     ghost use Rattle.std.specs.FinMap.{get};
@@ -43,16 +39,16 @@ impl Area {
         ensures any_moment { IsTold R.Shown rig.old → IsShown self.old (R.areas rig.old)
             → LeavesOnly R.Shown rig.old rig.new (LeftByFlip (R.areas rig.old) (R.said rig.old) self.old.dimm
             (after_free self.old slots.now)) }
+        ensures failed { IsTold R.Shown rig.old → IsShown self.old (R.areas rig.old)
+            → OnErr result (FailedFlip (R.areas rig.old) (R.areas rig.new) (R.said rig.old) self.old.dimm
+            (after_free self.old slots.now)) }
         ensures writes_only { WritesTo self.old.dimm R.Shown rig.old rig.new }
         ensures cause { FailsAt self.old.dimm R.Shown rig.old rig.new (is_err result) }
         ensures reads { R.reads rig.new ≡ R.reads rig.old }
     {
-        let geometry = self.geometry();
-        let place = self.place.other();
-        let seq = next_seq(self.seq);
-        let free = freed_bits(&self.free, geometry.slots, slots);
-        write_next(rig, self.dimm, &geometry, place, seq, &free)?;
-        self.keep(place, seq, &free, slots);
+        let next = self.next_freeing(slots);
+        self.flip(rig, &next)?;
+        self.keep(&next, slots);
         Ok(())
     }
 
@@ -81,22 +77,19 @@ impl Area {
         ensures any_moment { IsTold R.Shown rig.old → IsShown self.old (R.areas rig.old)
             → LeavesOnly R.Shown rig.old rig.new (LeftByFlip (R.areas rig.old) (R.said rig.old) self.old.dimm
             (after_put self.old label.now replaces)) }
+        ensures failed { IsTold R.Shown rig.old → IsShown self.old (R.areas rig.old)
+            → OnErr result (FailedFlip (R.areas rig.old) (R.areas rig.new) (R.said rig.old) self.old.dimm
+            (after_put self.old label.now replaces)) }
         ensures writes_only { WritesTo self.old.dimm R.Shown rig.old rig.new }
         ensures cause { FailsAt self.old.dimm R.Shown rig.old rig.new (is_err result) }
         ensures reads { R.reads rig.new ≡ R.reads rig.old }
     {
-        let geometry = self.geometry();
         let slot = self.first_slot();
         let label = Label { slot, ..*label };
-        let mut text = [0; LABEL_LEN];
-        write_label(&label, &mut text);
-        let place = self.place.other();
-        let seq = next_seq(self.seq);
         let freed = replaced(&replaces);
-        let mut free = freed_bits(&self.free, geometry.slots, freed);
-        set_used(&mut free, slot);
-        write_flip(rig, self.dimm, &geometry, slot, &text, place, seq, &free)?;
-        self.keep(place, seq, &free, freed);
+        let next = self.next_putting(slot, freed);
+        self.flip_with(rig, &next, &label)?;
+        self.keep(&next, freed);
         self.keep_label(slot, label);
         Ok(slot)
     }
@@ -106,12 +99,41 @@ impl Area {
         requires { HasFree self.now }
         ensures is { result ≡ first_slot self.now }
         ensures first { IsFirstFree self.now.free self.now.geometry.slots result }
+        ensures unused { get self.now.live (first_slot self.now) ≡ None }
+        ensures sound { IsSound self.now }
     {
         match first_free(&self.free, self.geometry.slots) {
             Some(slot) => slot,
             // One of the slots is free.
             None => unreachable!(),
         }
+    }
+
+    /// The index block of a flip that frees slots.
+    fn next_freeing(&self, slots: &[u32]) -> Next
+        requires { All (λ slot. slot < self.now.geometry.slots) slots.now }
+        ensures next { IsNext self.now result }
+        ensures bits { (k : ℕ) → k < self.now.geometry.slots
+            → is_free_in result.free k ≡ (is_among slots.now k || is_free_in self.now.free k) }
+        ensures after { with_bits self.now result ≡ after_free self.now slots.now }
+    {
+        let free = freed_bits(&self.free, self.geometry.slots, slots);
+        self.next(free)
+    }
+
+    /// The index block of a flip that frees slots and puts a label into another one.
+    fn next_putting(&self, slot: u32, freed: &[u32]) -> Next
+        requires slot { slot < self.now.geometry.slots }
+        requires freed { All (λ slot. slot < self.now.geometry.slots) freed.now }
+        ensures next { IsNext self.now result }
+        ensures bits { (k : ℕ) → k < self.now.geometry.slots → is_free_in result.free k
+            ≡ (if k == slot then false else (is_among freed.now k || is_free_in self.now.free k)) }
+        ensures after { (label : Label) → with_label slot label (with_bits self.now result)
+            ≡ with_label slot label (after_free self.now freed.now) }
+    {
+        let mut free = freed_bits(&self.free, self.geometry.slots, freed);
+        set_used(&mut free, slot);
+        self.next(free)
     }
 
     /// Keeps the label of a slot in use.
@@ -124,32 +146,37 @@ impl Area {
     }
 
     /// Keeps what a flip that freed slots made of the area.
-    fn keep(&mut self, place: Place, seq: u32, free: &[u8; BITMAP], freed: &[u32])
+    fn keep(&mut self, next: &Next, freed: &[u32])
         requires freed { All (λ slot. slot < self.old.geometry.slots) freed.now }
-        requires seq { IsSeq seq }
+        requires next { IsNext self.old next.now }
         requires bits { (k : ℕ) → k < self.old.geometry.slots → is_among freed.now k ≡ false
-            → is_free_in self.old.free k ≡ false → is_free_in free.now k ≡ false }
-        ensures rest { self.new
-            ≡ record self.old { place = place; seq = seq; free = self.new.free; live = self.new.live } }
-        ensures bits { (k : ℕ) → k < self.old.geometry.slots → is_free_in self.new.free k ≡ is_free_in free.now k }
+            → is_free_in self.old.free k ≡ false → is_free_in next.now.free k ≡ false }
+        ensures rest { self.new ≡ record self.old {
+          place = next.now.place;
+          seq = next.now.seq;
+          free = self.new.free;
+          live = self.new.live;
+        } }
+        ensures bits { (k : ℕ) → k < self.old.geometry.slots
+            → is_free_in self.new.free k ≡ is_free_in next.now.free k }
         ensures live { (k : ℕ) → get self.new.live k ≡ (if is_among freed.now k then None else get self.old.live k) }
     {
         let len = self.free.len();
-        self.free.copy_from_slice(&free[..len]);
+        self.free.copy_from_slice(&next.free[..len]);
         clear(&mut self.labels, freed);
-        self.place = place;
-        self.seq = seq;
+        self.place = next.place;
+        self.seq = next.seq;
     }
 }
 
 /// A bitmap with these slots free as well.
-fn freed_bits(free: &[u8], slots: u32, freed: &[u32]) -> [u8; BITMAP]
+fn freed_bits(free: &[u8], slots: u32, freed: &[u32]) -> [u8; BITMAP_BYTES]
     requires bits { length free.now ≡ bitmap_len slots }
-    requires most { slots ≤ 4096 }
+    requires most { slots ≤ 8 * bitmap_bytes }
     requires freed { All (λ slot. slot < slots) freed.now }
     ensures { (k : ℕ) → k < slots → is_free_in result k ≡ (is_among freed.now k || is_free_in free.now k) }
 {
-    let mut bits = [0; BITMAP];
+    let mut bits = [0; BITMAP_BYTES];
     bits[..free.len()].copy_from_slice(free);
     for slot in freed {
         set_free(&mut bits, *slot);
@@ -178,65 +205,4 @@ fn clear(labels: &mut [Option<Label>], freed: &[u32])
     for slot in freed {
         labels[*slot as usize] = None;
     }
-}
-
-/// Writes the index block of a place.
-fn write_next<R: Rig>(
-    rig: &mut R,
-    dimm: u32,
-    geometry: &Geometry,
-    place: Place,
-    seq: u32,
-    free: &[u8; BITMAP],
-) -> Result<(), Failed>
-    requires geometry { IsGeometry geometry.now }
-    requires label { geometry.now.label ≡ 256 }
-    requires seq { IsSeq seq }
-    requires sized { IsTold R.Shown rig.old
-        → size_in (R.areas rig.old) dimm ≡ Some (2 * geometry.now.block + geometry.now.slots * geometry.now.label) }
-    ensures written { WritesBytes R.Shown rig.old rig.new dimm (place_offset geometry.now place)
-        (block_text place seq geometry.now free.now) result }
-    ensures stops { WriteLeaves R.Shown rig.old rig.new dimm (place_offset geometry.now place)
-        (block_text place seq geometry.now free.now) result }
-    ensures writes_only { WritesTo dimm R.Shown rig.old rig.new }
-    ensures cause { FailsAt dimm R.Shown rig.old rig.new (is_err result) }
-    ensures reads { R.reads rig.new ≡ R.reads rig.old }
-{
-    let mut block = [0; WINDOW_BYTES];
-    let block = &mut block[..geometry.block as usize];
-    write_block(block, place, seq, geometry, free);
-    rig.write(dimm, u64::from(geometry.place_offset(place)), block)
-}
-
-/// Writes the text of a label into its slot, and then the index block of a place.
-fn write_flip<R: Rig>(
-    rig: &mut R,
-    dimm: u32,
-    geometry: &Geometry,
-    slot: u32,
-    text: &[u8; LABEL_LEN],
-    place: Place,
-    seq: u32,
-    free: &[u8; BITMAP],
-) -> Result<(), Failed>
-    requires geometry { IsGeometry geometry.now }
-    requires label { geometry.now.label ≡ 256 }
-    requires slot { slot < geometry.now.slots }
-    requires seq { IsSeq seq }
-    requires sized { IsTold R.Shown rig.old
-        → size_in (R.areas rig.old) dimm ≡ Some (2 * geometry.now.block + geometry.now.slots * geometry.now.label) }
-    ensures both { WritesBoth R.Shown rig.old rig.new dimm (slot_offset geometry.now slot) text.now
-        (place_offset geometry.now place) (block_text place seq geometry.now free.now) result }
-    ensures any_moment { LeavesTwo R.Shown rig.old rig.new dimm (slot_offset geometry.now slot) text.now
-        (place_offset geometry.now place) (block_text place seq geometry.now free.now) }
-    ensures writes_only { WritesTo dimm R.Shown rig.old rig.new }
-    ensures cause { FailsAt dimm R.Shown rig.old rig.new (is_err result) }
-    ensures reads { R.reads rig.new ≡ R.reads rig.old }
-{
-    let mut block = [0; WINDOW_BYTES];
-    let block = &mut block[..geometry.block as usize];
-    write_block(block, place, seq, geometry, free);
-    let at = u64::from(2 * geometry.block + slot * geometry.label);
-    let block_at = u64::from(geometry.place_offset(place));
-    rig_trait::write_two(rig, dimm, at, text, block_at, block)
 }

@@ -4,6 +4,7 @@
 mod area;
 mod blocks;
 mod flip;
+mod flip_writes;
 mod init;
 mod layouts;
 mod load;

@@ -26,11 +26,11 @@ invariant_of-self c =
     let len_free : c.len-len.result ≡ bitmap_len n = search rules in
     let copied = λ (k : ℕ) (below : k < n).
     ap (λ (xs : List ℕ). is_free_in xs k) c.copy_from_slice.ensures.items
-    ∙ ap (λ (byte : ℕ). bit_at byte (k % 8) == 1) (get_or-take c.len-len.result c.args.free.now (k / 8) 0 (omega (arith, below, len_free))) in
+    ∙ ap (λ (byte : ℕ). bit_at byte (k % 8) == 1) (get_or-take c.len-len.result c.args.next.now.free (k / 8) 0 (omega (arith, below, len_free))) in
     record {
       geometry = c.self.invariant.geometry;
       label = c.self.invariant.label;
-      seq = c.requires.seq;
+      seq = c.requires.next.numbered;
       bits = free_long;
       long = ap (λ (ls : List (Option Label)). length ls) now_is ∙ omega arith;
       in_use = λ k some. cleared_in_use labels.items c.clear.new.labels (is_among c.args.freed.now) c.self.inside.free.items _ n cleared c.self.invariant.in_use

@@ -1,0 +1,18 @@
+use Rattle.std.proofs.Common.{◌<◌, ◌||◌, List, ℕ, sym, ap, ◌∙◌, subst}
+use Rattle.index_block.specs.Bitmap.{is_free_in}
+use Rattle.label_area.specs.Flips.{is_among}
+use Rattle.label_area.specs.LoadedAreas.{LoadedArea}
+use Rattle.label_area.proofs.Freeing.{with_bits-freed}
+use Rattle.label_area.proofs.area.Area.next_freeing.Goals as goal
+
+pub returns-clause-bits : goal.returns-clause-bits
+returns-clause-bits c = λ k below.
+    ap (λ (bits : List ℕ). is_free_in bits k) c.next.ensures.bits
+    ∙ c.freed_bits-free.ensures k (subst (λ (x : LoadedArea). k < x.geometry.slots) (sym c.self.view_is) below)
+    ∙ ap (λ (free : List ℕ). is_among c.args.slots.now k || is_free_in free k) (c.deref.ensures.value ∙ ap (λ (x : LoadedArea). x.free) c.self.view_is)
+
+pub returns-clause-after : goal.returns-clause-after
+returns-clause-after c = with_bits-freed c.args.self.now c.next.ensures.sound c.next.result c.args.slots.now (λ k below.
+    ap (λ (bits : List ℕ). is_free_in bits k) c.next.ensures.bits
+    ∙ c.freed_bits-free.ensures k (subst (λ (x : LoadedArea). k < x.geometry.slots) (sym c.self.view_is) below)
+    ∙ ap (λ (free : List ℕ). is_among c.args.slots.now k || is_free_in free k) (c.deref.ensures.value ∙ ap (λ (x : LoadedArea). x.free) c.self.view_is))
