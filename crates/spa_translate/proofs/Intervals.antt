@@ -1,6 +1,6 @@
 -- Whole periods of a region are whole periods of each part.
-use Rattle.std.proofs.Common.{◌≡◌, ℕ, ◌+◌, ◌*◌, ◌/◌, ◌%◌, ◌<◌, ◌≤◌, length, refl, sym, ap, subst, ◌∙◌, arith, inl, inr}
-use Rattle.std.specs.Prelude.{nat_le, nat_lt}
+use Rattle.std.proofs.Common.{◌≡◌, ◌≢◌, ℕ, ◌+◌, ◌*◌, ◌/◌, ◌%◌, ◌<◌, ◌≤◌, Bool, true, false, List, length, refl, sym, ap, subst, ◌∙◌, arith, inl, inr}
+use Rattle.std.specs.Prelude.{◌&&◌, nat_le, nat_lt, Contains}
 use Rattle.std.proofs.Math.Nat.{add-mod, mul-le-mul_left, zero-mod}
 use Rattle.std.proofs.lemmas.Bool.{and_parts, cases_lt, leb-true, le-leb, le-ltb, lt-leb, lt-ltb, ltb-true}
 use Rattle.std.proofs.lemmas.Nat.{div-add-mod', mod_below}
@@ -8,7 +8,7 @@ use Rattle.spa_translate.specs.declared.strand.Strand.{Strand}
 use Rattle.view_types.specs.Intervals.{is_within}
 use Rattle.spa_translate.specs.Woven.{Woven, address_of, offset_of}
 use Rattle.spa_translate.specs.Pairs.{HasIntervals, IsPair, KeepsApart, period_of}
-use Rattle.spa_translate.specs.Laid.{IsLaid}
+use Rattle.spa_translate.specs.Laid.{IsLaid, IsStrand}
 use Rattle.spa_translate.proofs.Numbers.{all_within, byte_split, from_period}
 use Rattle.spa_translate.proofs.Lines.{start}
 use Rattle.spa_translate.proofs.Offsets.{offset_at}
@@ -19,13 +19,13 @@ pub within_same : (o n d a len off spa : ℕ) → (o ≤ d → a ≤ off) → (d
     → is_within (spa + a) len (spa + off) ≡ is_within o n d
 within_same o n d a len off spa from before below behind =
     let start : nat_le (spa + a) (spa + off) ≡ nat_le o d = (elim (cases_lt d o) [
-      | inl lt ↦ lt-leb (spa + a) (spa + off) (omega (arith, before lt)) ∙ sym (lt-leb o d lt)
+      inl lt ↦ lt-leb (spa + a) (spa + off) (omega (arith, before lt)) ∙ sym (lt-leb o d lt)
       | inr le ↦ le-leb (spa + a) (spa + off) (omega (arith, from le)) ∙ sym (le-leb o d le)
-    ]) in
+      ]) in
     let end : nat_lt (spa + off) (spa + a + len) ≡ nat_lt d (o + n) = (elim (cases_lt d (o + n)) [
-      | inl lt ↦ lt-ltb (spa + off) (spa + a + len) (omega (arith, below lt)) ∙ sym (lt-ltb d (o + n) lt)
+      inl lt ↦ lt-ltb (spa + off) (spa + a + len) (omega (arith, below lt)) ∙ sym (lt-ltb d (o + n) lt)
       | inr le ↦ le-ltb (spa + off) (spa + a + len) (omega (arith, behind le)) ∙ sym (le-ltb d (o + n) le)
-    ]) in
+      ]) in
     rw (start, end) refl
 
 -- The byte of period k and the byte before an edge of g periods: they stand alike in a part of m lines a period and in a
@@ -33,23 +33,23 @@ within_same o n d a len off spa from before below behind =
 edge_from : (k j l r g m t s : ℕ) → j < m → l < t → r < s → g * (m * s) ≤ (k * m + j) * s + r → g * (t * s) ≤ (k * t + l) * s + r
 edge_from k j l r g m t s line line' within le =
     elim (cases_lt k g) [
-      | inl lt ↦ absurd (let h = all_within k j r g m s lt line within in omega (arith, h, le))
-      | inr ge ↦ from_period k l r g t s line' within ge
+    inl lt ↦ absurd (let h = all_within k j r g m s lt line within in omega (arith, h, le))
+    | inr ge ↦ from_period k l r g t s line' within ge
     ]
 
 edge_before : (k j l r g m t s : ℕ) → j < m → l < t → r < s → (k * m + j) * s + r < g * (m * s) → (k * t + l) * s + r < g * (t * s)
 edge_before k j l r g m t s line line' within lt =
     elim (cases_lt k g) [
-      | inl below ↦ all_within k l r g t s below line' within
-      | inr ge ↦ absurd (let h = from_period k j r g m s line within ge in omega (arith, h, lt))
+    inl below ↦ all_within k l r g t s below line' within
+    | inr ge ↦ absurd (let h = from_period k j r g m s line within ge in omega (arith, h, lt))
     ]
 
 -- byte d of a part, at its offset: for a number of whole periods
-record IsEdge (ways o d off : ℕ) : Type 0 where
+pub record IsEdge (ways o d off : ℕ) : Type 0 where
   pub from : o ≤ d → ways * o ≤ off
   pub before : d < o → off < ways * o
 
-edge : (m s size : ℕ) (woven : Woven) → IsLaid m s size woven → (p : ℕ) (a : Strand) (at : IsAt woven p a) (o d : ℕ) → o % (m * s) ≡ 0 → IsEdge (length woven.strands) o d (offset_of (length woven.strands) a d)
+pub edge : (m s size : ℕ) (woven : Woven) → IsLaid m s size woven → (p : ℕ) (a : Strand) (at : IsAt woven p a) (o d : ℕ) → o % (m * s) ≡ 0 → IsEdge (length woven.strands) o d (offset_of (length woven.strands) a d)
 edge m s size woven laid p a at o d multiple =
     let n : ℕ = length woven.strands in
     let g : ℕ = o / (m * s) in

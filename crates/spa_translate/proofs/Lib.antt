@@ -9,3 +9,7 @@ pub mod Testing
 pub mod Fit
 pub mod Slots
 pub mod Kept
+pub mod Putting
+pub mod Reaching
+pub mod Spans
+pub mod Running

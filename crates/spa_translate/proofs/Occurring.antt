@@ -1,10 +1,10 @@
 -- A list of n numbers in which each number below n stands once.
-use Rattle.std.proofs.Common.{◌≡◌, ℕ, zero, suc, ◌+◌, ◌<◌, ◌≤◌, Bool, true, false, cond, List, [], ◌∷◌, length, get_or, take, drop, refl, sym, ap, ◌∙◌, arith, inl, inr}
-use Rattle.std.specs.Prelude.{◌==◌, nat_lt, All, count_by}
+use Rattle.std.proofs.Common.{◌≡◌, ◌≢◌, ℕ, zero, suc, ◌+◌, ◌<◌, ◌≤◌, Bool, true, false, cond, List, [], ◌∷◌, length, get_or, take, drop, refl, sym, ap, subst, ◌∙◌, arith, inl, inr}
+use Rattle.std.specs.Prelude.{◌==◌, nat_lt, All, AllPairs, count_by}
 use Rattle.std.proofs.lemmas.List.{get_or-take, get_or-drop, length-take-le, length-drop}
 use Rattle.std.proofs.lemmas.List.Elements.{All-nil, All-cons}
 use Rattle.std.proofs.lemmas.List.Sums.{count_by-le-length, get_or-le-sum_by, sum_by-cons, sum_by-take-drop}
-use Rattle.std.proofs.lemmas.Bool.{cases_order, eqb-true, ltb-true}
+use Rattle.std.proofs.lemmas.Bool.{cases_order, eqb-true, eq-eqb, ltb-true}
 use Rattle.std.proofs.lemmas.Bool.Decides.{nat_tests}
 
 -- how often a number stands in a list, and how many of its numbers are below one
@@ -79,16 +79,16 @@ twice xs i j before below same =
 pub once_apart : (xs : List ℕ) (n i j : ℕ) → length xs ≡ n → ((line : ℕ) → line < n → count xs line ≡ 1) → i < n → j < n → get_or xs i 0 ≡ get_or xs j 0 → i ≡ j
 once_apart xs n i j long once below below' same =
     elim (cases_order i j) [
-      | inl is ↦ is
-      | inr either ↦ elim either [
-        | inl before ↦
-            let two = twice xs i j before (omega (arith, long, below')) same in
-            let one = once (get_or xs i 0) (once_below xs n i long once below) in
-            absurd (omega (arith, two, one))
-        | inr behind ↦
-            let two = twice xs j i behind (omega (arith, long, below)) (sym same) in
-            let one = once (get_or xs j 0) (once_below xs n j long once below') in
-            absurd (omega (arith, two, one))
+    inl is ↦ is
+    | inr either ↦ elim either [
+      inl before ↦
+        let two = twice xs i j before (omega (arith, long, below')) same in
+        let one = once (get_or xs i 0) (once_below xs n i long once below) in
+        absurd (omega (arith, two, one))
+      | inr behind ↦
+        let two = twice xs j i behind (omega (arith, long, below)) (sym same) in
+        let one = once (get_or xs j 0) (once_below xs n j long once below') in
+        absurd (omega (arith, two, one))
       ]
     ]
 

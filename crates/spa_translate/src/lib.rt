@@ -6,6 +6,7 @@
 mod faults;
 mod laws;
 mod places;
+mod runs;
 mod strand;
 mod weave;
 
@@ -13,3 +14,6 @@ pub use faults::CheckFault;
 pub use laws::{intervals_apart, one_to_one, whole_intervals};
 pub use strand::Strand;
 pub use weave::Weave;
+
+#[cfg(test)]
+mod tests;

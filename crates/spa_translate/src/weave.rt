@@ -21,13 +21,13 @@ use view_types::TranslateFault;
 /// range and the members' parts.
 #[derive(Drop)]
 pub struct Weave {
-    spa: u64,
-    size: u64,
-    line_size: u32,
-    lines: usize,
-    strands: Vec<Strand>,
+    pub(crate) spa: u64,
+    pub(crate) size: u64,
+    pub(crate) line_size: u32,
+    pub(crate) lines: usize,
+    pub(crate) strands: Vec<Strand>,
     /// For each line of a period, its place among the lines of all parts.
-    places: Vec<u32>,
+    pub(crate) places: Vec<u32>,
 }
 
 impl Model for Weave {
@@ -220,7 +220,7 @@ impl Weave {
 }
 
 /// Byte `rest` of line `line` in period `skip`, where each has so many bytes, and each period so many lines.
-fn byte_at(skip: u64, lines: u64, line: u64, size: u64, rest: u64) -> u64
+pub(crate) fn byte_at(skip: u64, lines: u64, line: u64, size: u64, rest: u64) -> u64
     requires some { 0 < size }
     requires fits { (skip * lines + line) * size + rest < 2 ^ 63 }
     ensures { result ≡ (skip * lines + line) * size + rest }
@@ -229,7 +229,7 @@ fn byte_at(skip: u64, lines: u64, line: u64, size: u64, rest: u64) -> u64
 }
 
 /// An offset in the region: `rest` bytes into a line of so many bytes, behind so many whole periods.
-fn offset_at(offset: u64, line: u64, size: u64, skip: u64, period: u64, rest: u64) -> u64
+pub(crate) fn offset_at(offset: u64, line: u64, size: u64, skip: u64, period: u64, rest: u64) -> u64
     requires { offset + line * size + skip * period + rest < 2 ^ 63 }
     ensures { result ≡ offset + line * size + skip * period + rest }
 {
