@@ -4,4 +4,3 @@ pub mod Faults
 pub mod Laid
 pub mod Places
 pub mod Kept
-pub mod Runs
