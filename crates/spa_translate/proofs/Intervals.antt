@@ -19,13 +19,13 @@ pub within_same : (o n d a len off spa : ℕ) → (o ≤ d → a ≤ off) → (d
     → is_within (spa + a) len (spa + off) ≡ is_within o n d
 within_same o n d a len off spa from before below behind =
     let start : nat_le (spa + a) (spa + off) ≡ nat_le o d = (elim (cases_lt d o) [
-      inl lt ↦ lt-leb (spa + a) (spa + off) (omega (arith, before lt)) ∙ sym (lt-leb o d lt)
+      | inl lt ↦ lt-leb (spa + a) (spa + off) (omega (arith, before lt)) ∙ sym (lt-leb o d lt)
       | inr le ↦ le-leb (spa + a) (spa + off) (omega (arith, from le)) ∙ sym (le-leb o d le)
-      ]) in
+    ]) in
     let end : nat_lt (spa + off) (spa + a + len) ≡ nat_lt d (o + n) = (elim (cases_lt d (o + n)) [
-      inl lt ↦ lt-ltb (spa + off) (spa + a + len) (omega (arith, below lt)) ∙ sym (lt-ltb d (o + n) lt)
+      | inl lt ↦ lt-ltb (spa + off) (spa + a + len) (omega (arith, below lt)) ∙ sym (lt-ltb d (o + n) lt)
       | inr le ↦ le-ltb (spa + off) (spa + a + len) (omega (arith, behind le)) ∙ sym (le-ltb d (o + n) le)
-      ]) in
+    ]) in
     rw (start, end) refl
 
 -- The byte of period k and the byte before an edge of g periods: they stand alike in a part of m lines a period and in a
@@ -33,15 +33,15 @@ within_same o n d a len off spa from before below behind =
 edge_from : (k j l r g m t s : ℕ) → j < m → l < t → r < s → g * (m * s) ≤ (k * m + j) * s + r → g * (t * s) ≤ (k * t + l) * s + r
 edge_from k j l r g m t s line line' within le =
     elim (cases_lt k g) [
-    inl lt ↦ absurd (let h = all_within k j r g m s lt line within in omega (arith, h, le))
-    | inr ge ↦ from_period k l r g t s line' within ge
+      | inl lt ↦ absurd (let h = all_within k j r g m s lt line within in omega (arith, h, le))
+      | inr ge ↦ from_period k l r g t s line' within ge
     ]
 
 edge_before : (k j l r g m t s : ℕ) → j < m → l < t → r < s → (k * m + j) * s + r < g * (m * s) → (k * t + l) * s + r < g * (t * s)
 edge_before k j l r g m t s line line' within lt =
     elim (cases_lt k g) [
-    inl below ↦ all_within k l r g t s below line' within
-    | inr ge ↦ absurd (let h = from_period k j r g m s line within ge in omega (arith, h, lt))
+      | inl below ↦ all_within k l r g t s below line' within
+      | inr ge ↦ absurd (let h = from_period k j r g m s line within ge in omega (arith, h, lt))
     ]
 
 -- byte d of a part, at its offset: for a number of whole periods

@@ -79,16 +79,16 @@ twice xs i j before below same =
 pub once_apart : (xs : List ℕ) (n i j : ℕ) → length xs ≡ n → ((line : ℕ) → line < n → count xs line ≡ 1) → i < n → j < n → get_or xs i 0 ≡ get_or xs j 0 → i ≡ j
 once_apart xs n i j long once below below' same =
     elim (cases_order i j) [
-    inl is ↦ is
-    | inr either ↦ elim either [
-      inl before ↦
-        let two = twice xs i j before (omega (arith, long, below')) same in
-        let one = once (get_or xs i 0) (once_below xs n i long once below) in
-        absurd (omega (arith, two, one))
-      | inr behind ↦
-        let two = twice xs j i behind (omega (arith, long, below)) (sym same) in
-        let one = once (get_or xs j 0) (once_below xs n j long once below') in
-        absurd (omega (arith, two, one))
+      | inl is ↦ is
+      | inr either ↦ elim either [
+        | inl before ↦
+            let two = twice xs i j before (omega (arith, long, below')) same in
+            let one = once (get_or xs i 0) (once_below xs n i long once below) in
+            absurd (omega (arith, two, one))
+        | inr behind ↦
+            let two = twice xs j i behind (omega (arith, long, below)) (sym same) in
+            let one = once (get_or xs j 0) (once_below xs n j long once below') in
+            absurd (omega (arith, two, one))
       ]
     ]
 

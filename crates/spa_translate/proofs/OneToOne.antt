@@ -62,9 +62,9 @@ pub line_once : (m s size : ℕ) (woven : Woven) → IsLaid m s size woven → (
 line_once m s size woven laid p i q j a b at at' line line' same =
     let n : ℕ = length woven.strands in
     let flat : p * m + i ≡ q * m + j =
-      once_apart (all_lines woven.strands) (n * m) (p * m + i) (q * m + j) (long m s size woven laid) (once m s size woven laid)
-      (flat_below p i m n at.below line) (flat_below q j m n at'.below line')
-      (start_is m s size woven laid p i a at line ∙ same ∙ sym (start_is m s size woven laid q j b at' line')) in
+    once_apart (all_lines woven.strands) (n * m) (p * m + i) (q * m + j) (long m s size woven laid) (once m s size woven laid)
+    (flat_below p i m n at.below line) (flat_below q j m n at'.below line')
+    (start_is m s size woven laid p i a at line ∙ same ∙ sym (start_is m s size woven laid q j b at' line')) in
     same_from_place p i q j m line line' flat
 
 -- a line of a period as one of a part
@@ -141,9 +141,9 @@ same_byte m s size woven laid p q a b at at' d e same =
     let j = mod_below (d / s) m some in
     let j' = mod_below (e / s) m some in
     let places =
-      same_place (d / s / m) (start a (d / s % m)) (d % s) (e / s / m) (start b (e / s % m)) (e % s) (n * m) s
-      (line_below m s size woven laid p (d / s % m) a at j) (line_below m s size woven laid q (e / s % m) b at' j')
-      (mod_below d s bytes) (mod_below e s bytes) (sym first ∙ same ∙ second) in
+    same_place (d / s / m) (start a (d / s % m)) (d % s) (e / s / m) (start b (e / s % m)) (e % s) (n * m) s
+    (line_below m s size woven laid p (d / s % m) a at j) (line_below m s size woven laid q (e / s % m) b at' j')
+    (mod_below d s bytes) (mod_below e s bytes) (sym first ∙ same ∙ second) in
     let lines = line_once m s size woven laid p (d / s % m) q (e / s % m) a b at at' j j' places.1 in
     (lines.0, byte_split m s d ∙ (rw (places.0, lines.1, places.2) (sym (byte_split m s e))))
 
@@ -157,10 +157,10 @@ same_position m s size woven laid p q a b at at' same =
     let there : (e : Strand) → get_or woven.strands q e ≡ b = λ e. get_or_default woven.strands q e b at'.below ∙ at'.is in
     let handle : Strand → ℕ = λ x. x.handle in
     elim (cases_order p q) [
-    inl is ↦ is
-    | inr either ↦ elim either [
-      inl before ↦ absurd (laid.modules p q a before at'.below (ap handle (here a) ∙ same ∙ sym (ap handle (there a))))
-      | inr behind ↦ absurd (laid.modules q p a behind at.below (ap handle (there a) ∙ sym same ∙ sym (ap handle (here a))))
+      | inl is ↦ is
+      | inr either ↦ elim either [
+        | inl before ↦ absurd (laid.modules p q a before at'.below (ap handle (here a) ∙ same ∙ sym (ap handle (there a))))
+        | inr behind ↦ absurd (laid.modules q p a behind at.below (ap handle (there a) ∙ sym same ∙ sym (ap handle (here a))))
       ]
     ]
 
@@ -220,39 +220,39 @@ pair_of woven p a at d below = record {
 pub one_to_one : (m s size : ℕ) (woven : Woven) → IsLaid m s size woven → IsOneToOne woven
 one_to_one m s size woven laid = record {
   some_module = λ spa inside.
-    let byte = byte_of m s size woven laid (spa - woven.spa) (omega (arith, inside.from, inside.below)) in
-    let size_is = (laid_at m s size woven laid byte.position byte.strand byte.at).size_is in
-    let here = pair_of woven byte.position byte.strand byte.at byte.d (omega (arith, size_is, byte.below)) in
-    let address : address_of woven byte.strand byte.d ≡ spa = (let e = byte.is in omega (arith, e, inside.from)) in
-    (byte.strand.handle, byte.strand.base + byte.d, subst (λ (x : ℕ). IsPair woven x byte.strand.handle (byte.strand.base + byte.d)) address here);
+      let byte = byte_of m s size woven laid (spa - woven.spa) (omega (arith, inside.from, inside.below)) in
+      let size_is = (laid_at m s size woven laid byte.position byte.strand byte.at).size_is in
+      let here = pair_of woven byte.position byte.strand byte.at byte.d (omega (arith, size_is, byte.below)) in
+      let address : address_of woven byte.strand byte.d ≡ spa = (let e = byte.is in omega (arith, e, inside.from)) in
+      (byte.strand.handle, byte.strand.base + byte.d, subst (λ (x : ℕ). IsPair woven x byte.strand.handle (byte.strand.base + byte.d)) address here);
   one_module = λ spa dimm dpa dimm' dpa' pair pair'.
-    let first = at_from woven pair.strand pair.member in
-    let second = at_from woven pair'.strand pair'.member in
-    let same = same_byte m s size woven laid pair.member.0 pair'.member.0 pair.strand pair'.strand first second pair.d pair'.d (let e = pair.address in let f = pair'.address in omega (arith, e, f)) in
-    let strand = same_strand woven pair.member.0 pair'.member.0 pair.strand pair'.strand first second same.0 in
-    let handle : Strand → ℕ = λ x. x.handle in
-    let base : Strand → ℕ = λ x. x.base in
-    let bases : pair.strand.base ≡ pair'.strand.base = ap base strand in
-    (pair.handle ∙ ap handle strand ∙ sym pair'.handle, omega (arith, pair.at, pair'.at, bases, same.1));
+      let first = at_from woven pair.strand pair.member in
+      let second = at_from woven pair'.strand pair'.member in
+      let same = same_byte m s size woven laid pair.member.0 pair'.member.0 pair.strand pair'.strand first second pair.d pair'.d (let e = pair.address in let f = pair'.address in omega (arith, e, f)) in
+      let strand = same_strand woven pair.member.0 pair'.member.0 pair.strand pair'.strand first second same.0 in
+      let handle : Strand → ℕ = λ x. x.handle in
+      let base : Strand → ℕ = λ x. x.base in
+      let bases : pair.strand.base ≡ pair'.strand.base = ap base strand in
+      (pair.handle ∙ ap handle strand ∙ sym pair'.handle, omega (arith, pair.at, pair'.at, bases, same.1));
   some_address = λ dimm dpa mapped.
-    let here = pair_of woven mapped.member.0 mapped.strand (at_from woven mapped.strand mapped.member) (dpa - mapped.strand.base) (omega (arith, mapped.from, mapped.below)) in
-    let at : mapped.strand.base + (dpa - mapped.strand.base) ≡ dpa = omega (arith, mapped.from) in
-    let address : ℕ = address_of woven mapped.strand (dpa - mapped.strand.base) in
-    (address, subst (λ (x : ℕ). IsPair woven address dimm x) at (subst (λ (x : ℕ). IsPair woven address x (mapped.strand.base + (dpa - mapped.strand.base))) (sym mapped.handle) here));
+      let here = pair_of woven mapped.member.0 mapped.strand (at_from woven mapped.strand mapped.member) (dpa - mapped.strand.base) (omega (arith, mapped.from, mapped.below)) in
+      let at : mapped.strand.base + (dpa - mapped.strand.base) ≡ dpa = omega (arith, mapped.from) in
+      let address : ℕ = address_of woven mapped.strand (dpa - mapped.strand.base) in
+      (address, subst (λ (x : ℕ). IsPair woven address dimm x) at (subst (λ (x : ℕ). IsPair woven address x (mapped.strand.base + (dpa - mapped.strand.base))) (sym mapped.handle) here));
   one_address = λ spa spa' dimm dpa pair pair'.
-    let first = at_from woven pair.strand pair.member in
-    let second = at_from woven pair'.strand pair'.member in
-    let position = same_position m s size woven laid pair.member.0 pair'.member.0 pair.strand pair'.strand first second (sym pair.handle ∙ pair'.handle) in
-    let strand = same_strand woven pair.member.0 pair'.member.0 pair.strand pair'.strand first second position in
-    let base : Strand → ℕ = λ x. x.base in
-    let bases : pair.strand.base ≡ pair'.strand.base = ap base strand in
-    let bytes : pair.d ≡ pair'.d = omega (arith, pair.at, pair'.at, bases) in
-    pair.address ∙ ap (λ (x : Strand). address_of woven x pair.d) strand ∙ ap (address_of woven pair'.strand) bytes ∙ sym pair'.address;
+      let first = at_from woven pair.strand pair.member in
+      let second = at_from woven pair'.strand pair'.member in
+      let position = same_position m s size woven laid pair.member.0 pair'.member.0 pair.strand pair'.strand first second (sym pair.handle ∙ pair'.handle) in
+      let strand = same_strand woven pair.member.0 pair'.member.0 pair.strand pair'.strand first second position in
+      let base : Strand → ℕ = λ x. x.base in
+      let bases : pair.strand.base ≡ pair'.strand.base = ap base strand in
+      let bytes : pair.d ≡ pair'.d = omega (arith, pair.at, pair'.at, bases) in
+      pair.address ∙ ap (λ (x : Strand). address_of woven x pair.d) strand ∙ ap (address_of woven pair'.strand) bytes ∙ sym pair'.address;
   in_range = λ spa dimm dpa pair.
-    let first = at_from woven pair.strand pair.member in
-    let size_is = (laid_at m s size woven laid pair.member.0 pair.strand first).size_is in
-    let below = offset_below m s size woven laid pair.member.0 pair.strand first pair.d (omega (arith, pair.within, size_is)) in
-    record { from = omega (arith, pair.address); below = omega (arith, pair.address, below) };
+      let first = at_from woven pair.strand pair.member in
+      let size_is = (laid_at m s size woven laid pair.member.0 pair.strand first).size_is in
+      let below = offset_below m s size woven laid pair.member.0 pair.strand first pair.d (omega (arith, pair.within, size_is)) in
+      record { from = omega (arith, pair.address); below = omega (arith, pair.address, below) };
   mapped = λ spa dimm dpa pair. record {
     strand = pair.strand;
     member = pair.member;

@@ -44,15 +44,15 @@ behind start len o le = rw (le-ltb o (start + len) le) (and_false (nat_le start 
 -- two ranges that touch
 joined : (start len more o : ℕ) → is_within start (len + more) o ≡ (is_within start len o || is_within (start + len) more o)
 joined start len more o = elim (cases_lt o start) [
-    inl lt ↦ rw (before start (len + more) o lt, before start len o lt, before (start + len) more o (omega (arith, lt))) refl
-    | inr from ↦ elim (cases_lt o (start + len)) [
-      inl lt ↦ rw (inside start (len + more) o from (omega (arith, lt)), inside start len o from lt) refl
-      | inr past ↦ elim (cases_lt o (start + len + more)) [
-        inl lt ↦ rw (inside start (len + more) o from (omega (arith, lt)), behind start len o past, inside (start + len) more o past lt) refl
-        | inr out ↦ rw (behind start (len + more) o (omega (arith, out)), behind start len o past, behind (start + len) more o out) refl
-        ]
-      ]
+  | inl lt ↦ rw (before start (len + more) o lt, before start len o lt, before (start + len) more o (omega (arith, lt))) refl
+  | inr from ↦ elim (cases_lt o (start + len)) [
+    | inl lt ↦ rw (inside start (len + more) o from (omega (arith, lt)), inside start len o from lt) refl
+    | inr past ↦ elim (cases_lt o (start + len + more)) [
+      | inl lt ↦ rw (inside start (len + more) o from (omega (arith, lt)), behind start len o past, inside (start + len) more o past lt) refl
+      | inr out ↦ rw (behind start (len + more) o (omega (arith, out)), behind start len o past, behind (start + len) more o out) refl
     ]
+  ]
+]
 
 -- nothing more
 pub put_none : (old : List Extent) (start len : ℕ) → len ≡ 0 → IsPutAt old start len old
@@ -76,13 +76,13 @@ put_first start len some = record {
 pub put_joined : (done : List Extent) (e : Extent) (start len : ℕ) → end_of e ≡ start → IsPutAt (done ++ e ∷ []) start len (done ++ record { start = e.start; len = e.len + len } ∷ [])
 put_joined done e start len touch = record {
   ascend = λ whole is le.
-    change_end done (e ∷ []) (record { start = e.start; len = e.len + len } ∷ []) 0 whole (start + len)
-    (λ b here. (here.0, omega (arith, here.1), omega (arith, touch), tt)) (omega (arith, le)) is;
+      change_end done (e ∷ []) (record { start = e.start; len = e.len + len } ∷ []) 0 whole (start + len)
+      (λ b here. (here.0, omega (arith, here.1), omega (arith, touch), tt)) (omega (arith, le)) is;
   free_in = λ o.
-    let new = free_append done (record { start = e.start; len = e.len + len } ∷ []) o in
-    let old = free_append done (e ∷ []) o in
-    let at : is_within e.start (e.len + len) o ≡ (is_within e.start e.len o || is_within start len o) = joined e.start e.len len o ∙ ap (λ (x : ℕ). is_within e.start e.len o || is_within x len o) touch in
-    new ∙ (rw (at, old) (three (is_free done o) (is_within e.start e.len o) (is_within start len o)));
+      let new = free_append done (record { start = e.start; len = e.len + len } ∷ []) o in
+      let old = free_append done (e ∷ []) o in
+      let at : is_within e.start (e.len + len) o ≡ (is_within e.start e.len o || is_within start len o) = joined e.start e.len len o ∙ ap (λ (x : ℕ). is_within e.start e.len o || is_within x len o) touch in
+      new ∙ (rw (at, old) (three (is_free done o) (is_within e.start e.len o) (is_within start len o)));
 }
   where
     three : (a b c : Bool) → (a || ((b || c) || false)) ≡ ((a || (b || false)) || c)
@@ -94,8 +94,8 @@ put_joined done e start len touch = record {
 pub put_behind : (done : List Extent) (e : Extent) (start len : ℕ) → (end_of e ≡ start → ⊥) → 0 < len → IsPutAt (done ++ e ∷ []) start len ((done ++ e ∷ []) ++ record { start = start; len = len } ∷ [])
 put_behind done e start len apart some = record {
   ascend = λ whole is le.
-    subst (λ (xs : List Extent). Ascend 0 (start + len) xs) (sym (append_assoc done (e ∷ []) (record { start = start; len = len } ∷ [])))
-    (change_end done (e ∷ []) (e ∷ record { start = start; len = len } ∷ []) 0 whole (start + len)
-    (λ b here. (here.0, here.1, omega (arith, here.2, le), (omega (arith, here.2, le, apart), some, omega arith, tt))) (omega (arith, le)) is);
+      subst (λ (xs : List Extent). Ascend 0 (start + len) xs) (sym (append_assoc done (e ∷ []) (record { start = start; len = len } ∷ [])))
+      (change_end done (e ∷ []) (e ∷ record { start = start; len = len } ∷ []) 0 whole (start + len)
+      (λ b here. (here.0, here.1, omega (arith, here.2, le), (omega (arith, here.2, le, apart), some, omega arith, tt))) (omega (arith, le)) is);
   free_in = λ o. free_append (done ++ e ∷ []) (record { start = start; len = len } ∷ []) o ∙ ap (λ (b : Bool). is_free (done ++ e ∷ []) o || b) (or_none (is_within start len o));
 }

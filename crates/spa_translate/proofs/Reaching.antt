@@ -34,9 +34,9 @@ skip_to woven spa len a f g es are le out = record { ascend = longer es 0 f g le
     same : (o : ℕ) → (o < f) ⊎ (f ≤ o) → is_reached woven spa len a f o ≡ is_reached woven spa len a g o
     same o (inl lt) = reached_at woven spa len a f o lt ∙ sym (reached_at woven spa len a g o (omega (arith, lt, le)))
     same o (inr ge) = elim (cases_lt o g) [
-        inl lt ↦ reached_past woven spa len a f o ge ∙ sym (reached_at woven spa len a g o lt ∙ out o ge lt)
-        | inr past ↦ reached_past woven spa len a f o ge ∙ sym (reached_past woven spa len a g o past)
-        ]
+      | inl lt ↦ reached_past woven spa len a f o ge ∙ sym (reached_at woven spa len a g o lt ∙ out o ge lt)
+      | inr past ↦ reached_past woven spa len a f o ge ∙ sym (reached_past woven spa len a g o past)
+    ]
 
 -- bytes of which those of one range lie in it
 pub put_to : (woven : Woven) (spa len : ℕ) (a : Strand) (f g at more : ℕ) (old new : List Extent) → AreUpTo woven spa len a f old → IsPutAt old at more new → f ≤ at → at + more ≤ g

@@ -37,8 +37,8 @@ some_period m s size woven laid =
 no_more : (q k p : ℕ) → 0 < p → k * p ≤ q * p → k ≤ q
 no_more q k p some le =
     elim (cases_lt q k) [
-    inl lt ↦ absurd (let h : (q + 1) * p ≤ k * p = mul-le-mul_right p (omega (arith, lt)) in omega (arith, h, le, some))
-    | inr ge ↦ ge
+      | inl lt ↦ absurd (let h : (q + 1) * p ≤ k * p = mul-le-mul_right p (omega (arith, lt)) in omega (arith, h, le, some))
+      | inr ge ↦ ge
     ]
 
 -- periods of the range are periods of each part

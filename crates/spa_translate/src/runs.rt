@@ -15,12 +15,7 @@ use view_types::{Extent, List, Run};
 impl Weave {
     /// The maximal runs of module addresses behind a range of addresses that is not empty and lies in the region's range,
     /// by position and then by address.
-    pub fn module_runs(
-        &self,
-        alloc: Global,
-        spa: u64,
-        length: u64,
-    ) -> Result<List<Run>, AllocError>
+    pub fn module_runs(&self, alloc: Global, spa: u64, length: u64) -> Result<List<Run>, AllocError>
         requires some { 0 < length }
         requires from { self.now.spa ≤ spa }
         requires end { spa + length ≤ self.now.spa + self.now.len }
@@ -58,10 +53,11 @@ impl Weave {
         let last = (offset + (length - 1)) / period;
         let mut extents = Vec::new(alloc);
         self.put_period(strand, first, spa, length, &mut extents)?;
-        if first < last {
-            put_periods(&mut extents, self.lines as u64 * line_size, first, last)?;
-            self.put_period(strand, last, spa, length, &mut extents)?;
+        if first >= last {
+            return Ok(extents);
         }
+        put_periods(&mut extents, self.lines as u64 * line_size, first, last)?;
+        self.put_period(strand, last, spa, length, &mut extents)?;
         Ok(extents)
     }
 
@@ -173,11 +169,7 @@ fn joined(last: Extent, start: u64, len: u64) -> Option<Extent>
 }
 
 /// Puts the runs of a part's extents.
-fn put_runs(
-    runs: &mut List<Run>,
-    strand: &Strand,
-    extents: &[Extent],
-) -> Result<(), AllocError>
+fn put_runs(runs: &mut List<Run>, strand: &Strand, extents: &[Extent]) -> Result<(), AllocError>
     requires { All (λ e. strand.now.base + e.start ≤ 2 ^ 63) extents.now }
     ensures { OnOk result (runs.new ≡ runs.old ++ map (run_of strand.now) extents.now) }
 {

@@ -21,10 +21,7 @@ const BASE: u64 = 4 * GIB;
 type Part = (u32, u64, u64, u16, u16);
 
 /// Two modules of 64 GiB.
-const PAIR: [Part; 2] = [
-    (0x1, 64 * GIB, 0, 1, 2),
-    (0x101, 64 * GIB, 4096, 1, 2),
-];
+const PAIR: [Part; 2] = [(0x1, 64 * GIB, 0, 1, 2), (0x101, 64 * GIB, 4096, 1, 2)];
 
 /// Control region 1.
 fn control(alloc: Global) -> Piece {
@@ -282,10 +279,7 @@ fn first_faults(rt: HostRuntime) -> Result<(), Fail> {
 /// Both members without interleave structures.
 #[test]
 fn no_structures(rt: HostRuntime) -> Result<(), Fail> {
-    let parts = [
-        (0x1, 64 * GIB, 0, 0, 2),
-        (0x101, 64 * GIB, 4096, 0, 2),
-    ];
+    let parts = [(0x1, 64 * GIB, 0, 0, 2), (0x101, 64 * GIB, 4096, 0, 2)];
     match weave_of(rt.alloc(), 128 * GIB, &parts, 4096, &[0, 2], &[])? {
         Ok(_) => assert_eq!(rt; true, false),
         Err(fault) => told(&rt, Some(fault), TranslateFault::NoInterleave),
