@@ -1,5 +1,6 @@
 //! The addresses of a region (SPA) translated to those of its modules (DPA) and back (ACPI 6.2, sections 5.2.25.3 and
-//! 5.2.25.4): which regions can be translated, and one bijection between the bytes of the range and those of the members'
+//! 5.2.25.4): which regions can be translated, and one bijection between the bytes of the range and those
+//! of the members'
 //! parts.
 #![tactic(auto)]
 

@@ -43,7 +43,8 @@ fn place_of(slot: Slot) -> u32
     }
 }
 
-/// The line at a place among the lines of all parts, where each has so many. `None` exactly where it is none of a period.
+/// The line at a place among the lines of all parts, where each has so many. `None` exactly where it is none
+/// of a period.
 fn line_at(strands: &[Strand], lines: usize, place: usize) -> Option<usize>
     requires few { length strands.now ≤ 16 }
     requires few_lines { lines ≤ 4096 }

@@ -13,7 +13,8 @@ use std::alloc::{AllocError, Global};
 use view_types::{Extent, List, Run};
 
 impl Weave {
-    /// The maximal runs of module addresses behind a range of addresses that is not empty and lies in the region's range,
+    /// The maximal runs of module addresses behind a range of addresses that is not empty and lies in
+    /// the region's range,
     /// by position and then by address.
     pub fn module_runs(&self, alloc: Global, spa: u64, length: u64) -> Result<List<Run>, AllocError>
         requires some { 0 < length }
@@ -29,7 +30,8 @@ impl Weave {
         Ok(runs)
     }
 
-    /// The extents of a part's bytes that lie in the range. Of the periods that the range meets only the first and the last
+    /// The extents of a part's bytes that lie in the range. Of the periods that the range meets only the first
+    /// and the last
     /// can have bytes outside.
     fn extents_in(
         &self,

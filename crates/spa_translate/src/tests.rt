@@ -10,7 +10,7 @@ use region_map::{Platform, usable_regions};
 use std::alloc::{AllocError, Global};
 use std::process::Abort;
 use std::test::Fail;
-use view_types::{List, PERSISTENT_MEMORY, TranslateFault};
+use view_types::{List, PERSISTENT_MEMORY, Run, TranslateFault};
 
 const GIB: u64 = 1 << 30;
 
@@ -181,7 +181,8 @@ fn woven(
     }
 }
 
-/// The first fault of a region of two ways with these lines. Its members have these interleave indices and tell these ways.
+/// The first fault of a region of two ways with these lines. Its members have these interleave indices and
+/// tell these ways.
 fn fault_of(
     alloc: Global,
     size: u64,
@@ -337,6 +338,44 @@ fn many_lines(rt: HostRuntime) -> Result<(), Fail> {
     let lines = vec![in rt.alloc(); 0; 4097]?;
     let found = fault_of(rt.alloc(), SIZE, (4096, 1, 3), 4096, &lines, &[])?;
     told(&rt, found, TranslateFault::TooManyLines);
+    Ok(())
+}
+
+/// The runs behind a range.
+fn runs_of(alloc: Global, weave: &Weave, spa: u64, length: u64) -> Result<List<Run>, &'static str> {
+    if length == 0 || spa > u64::MAX - length {
+        return Err("no range");
+    }
+    if weave.to_module(spa).is_none() {
+        return Err("outside");
+    }
+    if weave.to_module(spa + length - 1).is_none() {
+        return Err("outside");
+    }
+    weave
+        .module_runs(alloc, spa, length)
+        .ok()
+        .ok_or("no memory")
+}
+
+/// Three lines of two modules.
+#[test]
+fn runs(rt: HostRuntime) -> Result<(), Fail> {
+    let weave = woven(rt.alloc(), 128 * GIB, &PAIR, 4096, &[0, 2])?;
+    let runs = runs_of(rt.alloc(), &weave, 0x1_0000_1000, 12288)?;
+    let first = Run {
+        dimm: 0x1,
+        dpa: 0x1000,
+        length: 4096,
+    };
+    let second = Run {
+        dimm: 0x101,
+        dpa: 0,
+        length: 8192,
+    };
+    assert_eq!(rt; runs.as_slice(), [first, second].as_slice());
+    let whole = runs_of(rt.alloc(), &weave, BASE, 128 * GIB)?;
+    assert_eq!(rt; whole.len(), 2);
     Ok(())
 }
 

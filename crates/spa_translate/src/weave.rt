@@ -145,7 +145,8 @@ impl Weave {
         self.strands.iter().any(|strand| strand.handle == dimm)
     }
 
-    /// The module and its address (DPA) behind an address of the region (SPA). `None` exactly where the address is outside
+    /// The module and its address (DPA) behind an address of the region (SPA). `None` exactly where the
+    /// address is outside
     /// the region's range.
     pub fn to_module(&self, spa: u64) -> Option<(u32, u64)>
         ensures inside { IsSome result ↔ IsInRange self.now spa }
@@ -191,7 +192,8 @@ impl Weave {
         }
     }
 
-    /// The address of the region of an address of the module at a position. `None` exactly where it is outside the part.
+    /// The address of the region of an address of the module at a position. `None` exactly where it is
+    /// outside the part.
     fn address_in(&self, position: usize, dpa: u64) -> Option<u64>
         requires { position < length self.now.strands }
         ensures { AddressIn self.now position dpa result }

@@ -14,8 +14,4 @@ found_in p (y ∷ ys) x is = by (p y) is (found_in p ys x)
 pub check-requires : goal.check-requires
 check-requires c =
     let found : find (λ (region : Region). region.index == 1) c.args.platform.now.regions ≡ Some c.in-Some.region.now = sym c.in-Some.ensures in
-<<<<<<< HEAD
-    c.usable_regions.ensures c.args.platform.now c.in-Some.region.now c.requires (found_in (λ region. region.index == 1) c.args.platform.now.regions c.in-Some.region.now found) c.in-None.is
-=======
     c.usable_regions.ensures c.args.platform.now c.in-Some.region.now c.requires (found_in (λ region. region.index == 1) c.args.platform.now.regions c.in-Some.region.now found) c.in-None-rule.is
->>>>>>> main
