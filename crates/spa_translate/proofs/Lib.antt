@@ -1,0 +1,15 @@
+pub mod Occurring
+pub mod Numbers
+pub mod Lines
+pub mod Offsets
+pub mod OneToOne
+pub mod Intervals
+pub mod Fitting
+pub mod Testing
+pub mod Fit
+pub mod Slots
+pub mod Kept
+pub mod Putting
+pub mod Reaching
+pub mod Spans
+pub mod Running
