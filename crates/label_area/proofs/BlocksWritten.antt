@@ -8,7 +8,7 @@ use Rattle.index_block.specs.declared.geometry.Place.TheVariants.{First, Second}
 use Rattle.index_block.specs.declared.blocks.BlockKind.TheVariants.{Usable}
 use Rattle.index_block.specs.Bitmap.{is_free_in}
 use Rattle.index_block.specs.Blocks.{is_signed, kind_of}
-use Rattle.index_block.specs.Geometry.{block_size, geometry_of}
+use Rattle.index_block.specs.Geometry.{block_size, geometry_of, window_bytes}
 use Rattle.index_block.specs.Written.{block_text}
 use Rattle.index_block.proofs.Behind.{kind_of-window}
 use Rattle.index_block.proofs.Sizes.{HasSizes}
@@ -27,11 +27,11 @@ IsLeftAt bytes at put garbage =
     (patched bytes at garbage ≡ bytes) ⊎ ((garbage ≡ put) ⊎ (is_signed (window_at (patched bytes at garbage) at) ≡ false))
 
 -- the front of a window is a range
-front_of_window : (bytes : List ℕ) (at n : ℕ) → n ≤ 4096 → take n (window_at bytes at) ≡ range bytes at n
-front_of_window bytes at n within = take-take n 4096 (drop at bytes) within
+front_of_window : (bytes : List ℕ) (at n : ℕ) → n ≤ window_bytes → take n (window_at bytes at) ≡ range bytes at n
+front_of_window bytes at n within = take-take n window_bytes (drop at bytes) within
 
 -- bytes that are put as a block, at an offset
-module _ (bytes put : List ℕ) (g : Geometry) (long : length put ≡ g.block) (most : g.block ≤ 4096) (at : ℕ) (fits : at + g.block ≤ length bytes) where
+module _ (bytes put : List ℕ) (g : Geometry) (long : length put ≡ g.block) (most : g.block ≤ window_bytes) (at : ℕ) (fits : at + g.block ≤ length bytes) where
   inside : at + length put ≤ length bytes
   inside = omega arith
 
@@ -47,7 +47,7 @@ module _ (bytes put : List ℕ) (g : Geometry) (long : length put ≡ g.block) (
 
   -- the windows behind them are as before
   pub window-behind : (from : ℕ) → at + g.block ≤ from → window_at (patched bytes at put) from ≡ window_at bytes from
-  window-behind from behind = range-patched_after bytes put at inside from 4096 (omega arith)
+  window-behind from behind = range-patched_after bytes put at inside from window_bytes (omega arith)
 
   -- and so is the front of one before them
   pub front-before : (from : ℕ) → from + g.block ≤ at → take g.block (window_at (patched bytes at put) from) ≡ take g.block (window_at bytes from)

@@ -11,7 +11,7 @@ use Rattle.index_block.specs.declared.geometry.Place.{Place}
 use Rattle.index_block.specs.declared.geometry.Place.TheVariants.{First, Second}
 use Rattle.index_block.specs.Bitmap.{is_free_in}
 use Rattle.index_block.specs.Current.{IsSeq, is_followed_by}
-use Rattle.index_block.specs.Geometry.{geometry_of, other_place, place_offset, slot_offset}
+use Rattle.index_block.specs.Geometry.{geometry_of, other_place, place_offset, slot_offset, window_bytes}
 use Rattle.index_block.specs.Written.{block_text}
 use Rattle.index_block.proofs.Behind.{kind_of-window}
 use Rattle.index_block.proofs.Sizes.{HasSizes}
@@ -63,7 +63,7 @@ module _ (g : Geometry) (is_256 : g.label ≡ 256) (sizes : HasSizes g) where
           front_of with_slot (place_offset g p) ∙ range-patched_before bytes put (slot_offset g slot) inside (place_offset g p) g.block (slots_behind p slot) ∙ sym (front_of bytes (place_offset g p))
         where
           front_of : (xs : List ℕ) (at : ℕ) → take g.block (window_at xs at) ≡ range xs at g.block
-          front_of xs at = take-take g.block 4096 (drop at xs) sizes.most
+          front_of xs at = take-take g.block window_bytes (drop at xs) sizes.most
 
       slot_usable : (p : Place) → seq_in (kind_at g with_slot p) ≡ seq_in (kind_at g bytes p)
       slot_usable p = usable_front p g (place_window g with_slot p) (place_window g bytes p) sizes.least (slot_front p)

@@ -1,5 +1,5 @@
 -- What a fault of an area says of the kind of the area, and which faults are the rig's.
-use Rattle.std.specs.Prelude.{Bool, true, false, Option, Some, None, Result, Ok, Err}
+use Rattle.std.specs.Prelude.{ℕ, Bool, true, false, Option, Some, None, Result, Ok, Err}
 use Rattle.module_labels.specs.declared.kind.AreaKind.{AreaKind}
 use Rattle.module_labels.specs.declared.kind.AreaKind.TheVariants.{Missing, WrongSize, Ready, Foreign, Uninit}
 use Rattle.label_area.specs.declared.init.InitFault.{InitFault}
@@ -10,11 +10,20 @@ use Rattle.label_area.specs.declared.load.AreaFault.TheVariants as load
 -- the kind of an area that isn't loaded; nothing tells it where the rig failed, or memory was refused
 abbrev pub load_kind : AreaFault → Option AreaKind
 load_kind load.Missing = Some Missing
-load_kind load.WrongSize = Some WrongSize
-load_kind load.Uninit = Some Uninit
-load_kind load.Foreign = Some Foreign
+load_kind (load.WrongSize size) = Some WrongSize
+load_kind (load.Uninit size) = Some Uninit
+load_kind (load.Foreign size) = Some Foreign
 load_kind load.Failed = None
 load_kind load.Memory = None
+
+-- the size of an area that is there and isn't loaded; nothing tells it where the rig failed, or memory was refused
+abbrev pub load_size : AreaFault → Option ℕ
+load_size load.Missing = None
+load_size (load.WrongSize size) = Some size
+load_size (load.Uninit size) = Some size
+load_size (load.Foreign size) = Some size
+load_size load.Failed = None
+load_size load.Memory = None
 
 -- the kind of an area that isn't initialised; nothing tells it where the rig failed
 abbrev pub init_kind : InitFault → Option AreaKind
@@ -28,9 +37,9 @@ init_kind init.Failed = None
 abbrev pub is_load_failed : {T : Type 0} → Result T AreaFault → Bool
 is_load_failed (Ok value) = false
 is_load_failed (Err load.Missing) = false
-is_load_failed (Err load.WrongSize) = false
-is_load_failed (Err load.Uninit) = false
-is_load_failed (Err load.Foreign) = false
+is_load_failed (Err (load.WrongSize size)) = false
+is_load_failed (Err (load.Uninit size)) = false
+is_load_failed (Err (load.Foreign size)) = false
 is_load_failed (Err load.Failed) = true
 is_load_failed (Err load.Memory) = false
 

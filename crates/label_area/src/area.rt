@@ -43,7 +43,7 @@ impl Area {
     ghost use Rattle.std.specs.FinMap.{get};
     ghost use Rattle.index_block.specs.Bitmap.{free_count};
     ghost use Rattle.label_area.specs.Kept.{loaded_from};
-    ghost use Rattle.label_area.specs.LoadedAreas.{IsSound, is_used, labels_by_slot};
+    ghost use Rattle.label_area.specs.LoadedAreas.{IsSound, is_used, labels_by_slot, size_of};
 
     /// What is kept of an area with these bytes and this current block.
     pub(crate) fn of(
@@ -84,6 +84,13 @@ impl Area {
         ensures sound { IsSound self.now }
     {
         self.geometry
+    }
+
+    /// The size of the area in bytes.
+    pub fn size(&self) -> u64
+        ensures { result ≡ size_of self.now }
+    {
+        u64::from(2 * self.geometry.block + self.geometry.slots * self.geometry.label)
     }
 
     /// The number of slots.

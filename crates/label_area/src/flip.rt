@@ -13,17 +13,16 @@ ghost use Rattle.rig_trait.specs.TwoWrites.{LeavesTwo, WritesBoth};
 ghost use Rattle.label_area.specs.Flips.{HasFree, IsSized, LeftByFlip, after_free, after_put, at_slot, first_slot, is_among, replaced, shown_by};
 ghost use Rattle.label_area.specs.Loads.{IsShown};
 ghost use Rattle.label_area.specs.LoadedAreas.{is_used};
+ghost use Rattle.label_area.specs.Slots.{bitmap_bytes};
 
 use crate::area::Area;
+use crate::blocks::BITMAP_BYTES;
 use index_block::{
     Geometry, Place, WINDOW_BYTES, first_free, next_seq, set_free, set_used, write_block,
 };
 use label_codec::{LABEL_LEN, Label, write_label};
 use rig_trait::{Failed, Rig};
 use std::slice::from_ref;
-
-/// The bytes of a bitmap for as many slots as an area can have.
-const BITMAP: usize = 512;
 
 impl Area {
     ghost use Rattle.std.specs.FinMap.{get};
@@ -124,7 +123,7 @@ impl Area {
     }
 
     /// Keeps what a flip that freed slots made of the area.
-    fn keep(&mut self, place: Place, seq: u32, free: &[u8; BITMAP], freed: &[u32])
+    fn keep(&mut self, place: Place, seq: u32, free: &[u8; BITMAP_BYTES], freed: &[u32])
         requires freed { All (λ slot. slot < self.old.geometry.slots) freed.now }
         requires seq { IsSeq seq }
         requires bits { (k : ℕ) → k < self.old.geometry.slots → is_among freed.now k ≡ false
@@ -143,13 +142,13 @@ impl Area {
 }
 
 /// A bitmap with these slots free as well.
-fn freed_bits(free: &[u8], slots: u32, freed: &[u32]) -> [u8; BITMAP]
+fn freed_bits(free: &[u8], slots: u32, freed: &[u32]) -> [u8; BITMAP_BYTES]
     requires bits { length free.now ≡ bitmap_len slots }
-    requires most { slots ≤ 4096 }
+    requires most { slots ≤ 8 * bitmap_bytes }
     requires freed { All (λ slot. slot < slots) freed.now }
     ensures { (k : ℕ) → k < slots → is_free_in result k ≡ (is_among freed.now k || is_free_in free.now k) }
 {
-    let mut bits = [0; BITMAP];
+    let mut bits = [0; BITMAP_BYTES];
     bits[..free.len()].copy_from_slice(free);
     for slot in freed {
         set_free(&mut bits, *slot);
@@ -187,7 +186,7 @@ fn write_next<R: Rig>(
     geometry: &Geometry,
     place: Place,
     seq: u32,
-    free: &[u8; BITMAP],
+    free: &[u8; BITMAP_BYTES],
 ) -> Result<(), Failed>
     requires geometry { IsGeometry geometry.now }
     requires label { geometry.now.label ≡ 256 }
@@ -217,7 +216,7 @@ fn write_flip<R: Rig>(
     text: &[u8; LABEL_LEN],
     place: Place,
     seq: u32,
-    free: &[u8; BITMAP],
+    free: &[u8; BITMAP_BYTES],
 ) -> Result<(), Failed>
     requires geometry { IsGeometry geometry.now }
     requires label { geometry.now.label ≡ 256 }

@@ -16,14 +16,14 @@ ghost use Rattle.label_area.specs.Layouts.{AreLayouts};
 ghost use Rattle.label_area.specs.Modules.{area_kind};
 
 use crate::area::Area;
-use crate::blocks::BlockKinds;
+use crate::blocks::{BITMAP_BYTES, BlockKinds};
 use crate::layouts::Layouts;
 use index_block::{BlockKind, Geometry, Place, WINDOW_BYTES, read_block, write_block};
 use module_labels::AreaKind;
 use rig_trait::Rig;
 
-/// Free bits for as many slots as an area can have.
-const ALL_FREE: [u8; 512] = [0xff; 512];
+/// A bitmap with all slots free.
+const ALL_FREE: [u8; BITMAP_BYTES] = [0xff; BITMAP_BYTES];
 
 /// Why an area isn't initialised.
 #[derive(Clone, Copy, Debug, PartialEq, Eq)]
@@ -116,7 +116,7 @@ fn uninit_layout<R: Rig>(rig: &mut R, dimm: u32) -> Result<Geometry, InitFault>
 }
 
 /// What stands in an area of `size` bytes. It reads the three windows in which a signed index block may stand, each of
-/// at most 4,096 bytes.
+/// at most `WINDOW_BYTES`.
 fn read_kinds<R: Rig>(
     rig: &mut R,
     dimm: u32,

@@ -5,7 +5,7 @@ ghost use Rattle.std.specs.FinMap.{get};
 ghost use Rattle.rig_trait.specs.Areas.{size_in};
 ghost use Rattle.rig_trait.specs.Frames.{FailsAt, IsTold, Reads};
 ghost use Rattle.label_area.specs.declared.load.AreaFault.TheVariants.{Failed, Memory};
-ghost use Rattle.label_area.specs.Faults.{is_load_failed, load_kind};
+ghost use Rattle.label_area.specs.Faults.{is_load_failed, load_kind, load_size};
 
 use crate::area::Area;
 use crate::blocks::BlockKinds;
@@ -19,12 +19,13 @@ use std::alloc::{AllocError, Global};
 pub enum AreaFault {
     /// The module has no area.
     Missing,
-    /// No area can have its size.
-    WrongSize,
-    /// No signed index block stands at one of their places.
-    Uninit,
-    /// A signed index block stands at one of their places, for labels of 256 or of 128 bytes, and none is usable.
-    Foreign,
+    /// No area can have its size, which is given in bytes.
+    WrongSize { size: u64 },
+    /// No signed index block stands at one of their places in an area of `size` bytes.
+    Uninit { size: u64 },
+    /// A signed index block stands at one of their places in an area of `size` bytes, for labels of 256 or of 128
+    /// bytes, and none is usable.
+    Foreign { size: u64 },
     /// The rig failed.
     Failed,
     /// Memory was refused.
@@ -38,10 +39,22 @@ impl AreaFault {
     {
         match self {
             AreaFault::Missing => Some(AreaKind::Missing),
-            AreaFault::WrongSize => Some(AreaKind::WrongSize),
-            AreaFault::Uninit => Some(AreaKind::Uninit),
-            AreaFault::Foreign => Some(AreaKind::Foreign),
+            AreaFault::WrongSize { .. } => Some(AreaKind::WrongSize),
+            AreaFault::Uninit { .. } => Some(AreaKind::Uninit),
+            AreaFault::Foreign { .. } => Some(AreaKind::Foreign),
             AreaFault::Failed | AreaFault::Memory => None,
+        }
+    }
+
+    /// The size of the area in bytes. `None` where there is none, and where nothing tells it.
+    pub fn size(self) -> Option<u64>
+        ensures { result ≡ load_size self }
+    {
+        match self {
+            AreaFault::WrongSize { size }
+            | AreaFault::Uninit { size }
+            | AreaFault::Foreign { size } => Some(size),
+            AreaFault::Missing | AreaFault::Failed | AreaFault::Memory => None,
         }
     }
 }
@@ -66,8 +79,8 @@ impl Area {
     ghost use Rattle.label_area.specs.Loads.{Loads};
     ghost use Rattle.label_area.specs.LoadedAreas.{IsSound};
 
-    /// Loads the area of a module: it asks for the size, and reads the whole area where areas can have that size. It
-    /// takes the room for all slots.
+    /// Loads the area of a module: it asks for the size once, and reads the whole area by one call where areas can have
+    /// that size. It takes the room for all slots.
     pub fn load<R: Rig>(alloc: Global, rig: &mut R, dimm: u32) -> Result<Area, AreaFault>
         ensures loaded { IsTold R.Shown rig.old → Loads dimm (R.areas rig.old) result }
         ensures dimm { IfOk result (λ area. area.dimm ≡ dimm) }
@@ -79,14 +92,14 @@ impl Area {
             return Err(AreaFault::Missing);
         };
         let Some(layouts) = Layouts::of(size) else {
-            return Err(AreaFault::WrongSize);
+            return Err(AreaFault::WrongSize { size });
         };
         let bytes = read_whole(alloc, rig, dimm, size)?;
         let kinds = BlockKinds::of(&bytes, &layouts);
         let Some(current) = kinds.current(layouts.own) else {
             return match kinds.kind() {
-                AreaKind::Foreign => Err(AreaFault::Foreign),
-                _ => Err(AreaFault::Uninit),
+                AreaKind::Foreign => Err(AreaFault::Foreign { size }),
+                _ => Err(AreaFault::Uninit { size }),
             };
         };
         Ok(Area::of(alloc, dimm, &bytes, &current)?)

@@ -46,17 +46,17 @@ current_block-none (Some bytes) other = by_layout (geometry_of (length bytes) 25
 -- a fault that tells the kind of an area tells another than Ready, and the rig did not fail
 not_ready : (fault : AreaFault) (kind : AreaKind) → Some kind ≡ load_kind fault → kind ≢ Ready
 not_ready load.Missing kind is ready = cc
-not_ready load.WrongSize kind is ready = cc
-not_ready load.Uninit kind is ready = cc
-not_ready load.Foreign kind is ready = cc
+not_ready (load.WrongSize size) kind is ready = cc
+not_ready (load.Uninit size) kind is ready = cc
+not_ready (load.Foreign size) kind is ready = cc
 not_ready load.Failed kind is ready = cc
 not_ready load.Memory kind is ready = cc
 
 not_failed : (T : Type 0) (fault : AreaFault) (kind : AreaKind) → Some kind ≡ load_kind fault → is_load_failed {T = T} (Err fault) ≡ false
 not_failed T load.Missing kind is = refl
-not_failed T load.WrongSize kind is = refl
-not_failed T load.Uninit kind is = refl
-not_failed T load.Foreign kind is = refl
+not_failed T (load.WrongSize size) kind is = refl
+not_failed T (load.Uninit size) kind is = refl
+not_failed T (load.Foreign size) kind is = refl
 not_failed T load.Failed kind is = absurd cc
 not_failed T load.Memory kind is = refl
 
@@ -74,7 +74,7 @@ module _ {R : Type 0} (m : Ghosts R) (dimm : ℕ) (old new : R) where
     done = tt;
     faults = record { faults = rw (not_failed LoadedArea fault kind is) at fails.faults; names = λ other named. cc };
     answered = λ told.
-        let kind_is : area_kind (get (m.areas old) dimm) ≡ kind = subst (λ found. IfSome found (λ k. area_kind (get (m.areas old) dimm) ≡ k)) (sym is) (loaded told) in
+        let kind_is : area_kind (get (m.areas old) dimm) ≡ kind = subst (λ found. IfSome found (λ k. area_kind (get (m.areas old) dimm) ≡ k)) (sym is) (loaded told).kind_is in
         labels_answer-refused dimm (m.areas old) kind kind_is (not_ready fault kind is) ∙ ap (refused (NotReady dimm kind)) (sym read.areas);
     written = λ told. WritesOnly-same None (m.areas old) (m.areas new) read.areas;
   }

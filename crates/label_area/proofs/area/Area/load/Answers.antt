@@ -21,12 +21,13 @@ returns-in_default-current-clause-loaded g c told =
     let whole = c.in_ok-bytes.ensures.whole (read.goes_on.tells ∙ told) in
     let layouts = c.in-Some-of.layouts in
     let kinds = c.of-kinds.result in
+    let size_is = sym (c.in_ok-size.ensures.size told) ∙ c.in-Some.is in
     let looked =
     kind_looked c.in-Some.size layouts areas (g.R.Shown.areas c.size.new.self) c.args.dimm kinds read.areas
-    (sym (c.in_ok-size.ensures.size told) ∙ c.in-Some.is) c.in-Some-of.ensures.exact (c.of-kinds.ensures.kinds ∙ ap (λ (b : List ℕ). kinds_in layouts b) (c.deref.ensures.value ∙ sym (ap (λ o. unwrap_or o []) whole))) in
+    size_is c.in-Some-of.ensures.exact (c.of-kinds.ensures.kinds ∙ ap (λ (b : List ℕ). kinds_in layouts b) (c.deref.ensures.value ∙ sym (ap (λ o. unwrap_or o []) whole))) in
     elim c.match-kind.branch [
-      | in-Foreign w ↦ rw w.result-is (looked ∙ sym w.in-Foreign.ensures)
-      | in_default-kind w ↦ rw w.result-is (looked ∙ not_foreign layouts.own kinds (sym c.in_default-current.ensures.current) (λ e. w.in_default-kind.not-Foreign (c.kind.ensures ∙ e)))
+      | in-Foreign w ↦ rw w.result-is (record { kind_is = looked ∙ sym w.in-Foreign.ensures; size_is = size_is })
+      | in_default-kind w ↦ rw w.result-is (record { kind_is = looked ∙ not_foreign layouts.own kinds (sym c.in_default-current.ensures.current) (λ e. w.in_default-kind.not-Foreign (c.kind.ensures ∙ e)); size_is = size_is })
     ]
 
 pub returns-in_default-current-clause-cause : goal.returns-in_default-current-clause-cause
