@@ -52,9 +52,27 @@ rule_code = code_by ℕ coded_ℕ rule_number numbered_rule rule-numbered
 
 abbrev pub member_code : Coded Member
 member_code = code_by (ℕ × (ℕ × (ℕ × (ℕ × (ℕ × (ℕ × (ℕ × (ℕ × (ℕ × ℕ)))))))))
-    (coded× coded_ℕ (coded× coded_ℕ (coded× coded_ℕ (coded× coded_ℕ (coded× coded_ℕ (coded× coded_ℕ (coded× coded_ℕ (coded× coded_ℕ
-    (coded× coded_ℕ coded_ℕ)))))))))
-    (λ m. (m.handle, (m.dpa_base, (m.size, (m.region_offset, (m.interleave, (m.ways, (m.serial, (m.vendor, (m.date, m.location))))))))))
+    (coded× coded_ℕ (coded× coded_ℕ (coded× coded_ℕ (coded× coded_ℕ (coded× coded_ℕ (coded× coded_ℕ
+    (coded× coded_ℕ (coded× coded_ℕ (coded× coded_ℕ coded_ℕ)))))))))
+    (λ m. (
+      m.handle,
+      (
+        m.dpa_base,
+        (
+          m.size,
+          (
+            m.region_offset,
+            (
+              m.interleave,
+              (
+                m.ways,
+                (m.serial, (m.vendor, (m.date, m.location))),
+              ),
+            ),
+          ),
+        ),
+      ),
+    ))
     (λ p. record {
       handle = p.0;
       dpa_base = p.1.0;
@@ -70,9 +88,17 @@ member_code = code_by (ℕ × (ℕ × (ℕ × (ℕ × (ℕ × (ℕ × (ℕ × (�
 
 abbrev pub region_code : Coded Region
 region_code = code_by (ℕ × (ℕ × (ℕ × (Option Rule × (List Member × ℕ)))))
-    (coded× coded_ℕ (coded× coded_ℕ (coded× coded_ℕ (coded× (coded_option rule_code) (coded× (coded_list member_code) coded_ℕ)))))
+    (coded× coded_ℕ (coded× coded_ℕ (coded× coded_ℕ (coded× (coded_option rule_code)
+    (coded× (coded_list member_code) coded_ℕ)))))
     (λ r. (r.index, (r.spa, (r.length, (r.rule, (r.members, r.cookie))))))
-    (λ p. record { index = p.0; spa = p.1.0; length = p.1.1.0; rule = p.1.1.1.0; members = p.1.1.1.1.0; cookie = p.1.1.1.1.1 }) (λ _. refl)
+    (λ p. record {
+      index = p.0;
+      spa = p.1.0;
+      length = p.1.1.0;
+      rule = p.1.1.1.0;
+      members = p.1.1.1.1.0;
+      cookie = p.1.1.1.1.1;
+    }) (λ _. refl)
 
 -- a number for the kind of an area and its size, and the area where it is Ready
 abbrev pub area_parts : ModuleArea → ℕ × (ℕ × Option LoadedArea)
@@ -83,7 +109,11 @@ area_parts (Foreign size) = (3, (size, None))
 area_parts (Ready area) = (4, (0, Some area))
 
 abbrev pub area_with : ℕ → ℕ → Option LoadedArea → ModuleArea
-area_with kind size None = if kind == 0 then Missing else if kind == 1 then WrongSize size else if kind == 2 then Uninit size else Foreign size
+area_with kind size None =
+    if kind == 0 then Missing
+    else if kind == 1 then WrongSize size
+    else if kind == 2 then Uninit size
+    else Foreign size
 area_with kind size (Some area) = Ready area
 
 abbrev pub area_of_parts : ℕ × (ℕ × Option LoadedArea) → ModuleArea
@@ -97,7 +127,9 @@ area-of_parts (Foreign size) = refl
 area-of_parts (Ready area) = refl
 
 abbrev pub area_code : Coded ModuleArea
-area_code = code_by (ℕ × (ℕ × Option LoadedArea)) (coded× coded_ℕ (coded× coded_ℕ (coded_option loaded_code))) area_parts area_of_parts area-of_parts
+area_code = code_by (ℕ × (ℕ × Option LoadedArea)) (coded× coded_ℕ (coded× coded_ℕ (coded_option loaded_code)))
+    area_parts area_of_parts area-of_parts
 
 abbrev pub module_code : Coded LoadedModule
-module_code = code_by (ℕ × ModuleArea) (coded× coded_ℕ area_code) (λ m. (m.dimm, m.area)) (λ p. record { dimm = p.0; area = p.1 }) (λ _. refl)
+module_code = code_by (ℕ × ModuleArea) (coded× coded_ℕ area_code) (λ m. (m.dimm, m.area))
+    (λ p. record { dimm = p.0; area = p.1 }) (λ _. refl)

@@ -13,7 +13,8 @@ use Rattle.label_sets.specs.declared.sets.Sets.TheInside.{Inside}
 use Rattle.label_sets.specs.Sets.{StoredSets}
 
 -- the free space of a region is what the labels of all modules leave
-pub record IsFree (modules : List LoadedModule) (regions : List RegionLabels) (kept : RegionLabels) (free : FreeSpace) : Type 0 where
+pub record IsFree (modules : List LoadedModule) (regions : List RegionLabels) (kept : RegionLabels)
+    (free : FreeSpace) : Type 0 where
   pub extents : AreFreeExtents (platform_of regions) (labels_in modules) kept.region free.extents
   pub whole : free.whole ≡ part_size kept.region
 

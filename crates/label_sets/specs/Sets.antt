@@ -27,5 +27,7 @@ abbrev pub state_in : StoredSets → State
 state_in sets = state (platform_in sets) (labels_in sets)
 
 abbrev pub sets_code : Coded StoredSets
-sets_code = code_by (List Region × (List LoadedModule × Bool)) (coded× (coded_list region_code) (coded× (coded_list module_code) coded_bool))
-    (λ s. (s.regions, (s.modules, s.room))) (λ p. record { regions = p.0; modules = p.1.0; room = p.1.1 }) (λ _. refl)
+sets_code = code_by (List Region × (List LoadedModule × Bool))
+    (coded× (coded_list region_code) (coded× (coded_list module_code) coded_bool))
+    (λ s. (s.regions, (s.modules, s.room))) (λ p. record { regions = p.0; modules = p.1.0; room = p.1.1 })
+    (λ _. refl)

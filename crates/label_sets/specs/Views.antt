@@ -80,7 +80,8 @@ spare_if_ready platform labels (Some loaded) =
 abbrev pub spare_at : StoredSets → ℕ → Option ℕ
 spare_at sets dimm = spare_if_ready (platform_in sets) (labels_in sets) (find (is_of dimm) sets.modules)
 
-pub record IsModuleView (platform : Platform) (labels : Labels) (loaded : LoadedModule) (view : ModuleView) : Type 0 where
+pub record IsModuleView (platform : Platform) (labels : Labels) (loaded : LoadedModule)
+    (view : ModuleView) : Type 0 where
   pub dimm_is : view.dimm ≡ loaded.dimm
   pub state_is : view.state ≡ area_state platform labels loaded
   pub held_are : AreHeldIn platform labels loaded view.held

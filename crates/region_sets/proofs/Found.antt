@@ -1,9 +1,9 @@
 -- What is found of a uuid in a module, and the only label that has it.
-use Rattle.std.proofs.Common.{◌≡◌, ◌⊎◌, inl, inr, ℕ, ◌+◌, ◌≤◌, ◌<◌, Bool, true, false, ◌&&◌, cond, List, Option, Some, None, refl, sym, ap, subst, ◌∙◌, arith}
+use Rattle.std.proofs.Common.{◌≡◌, ◌⊎◌, inl, inr, ℕ, ◌≤◌, ◌<◌, Bool, true, false, ◌&&◌, cond, List, Option, Some, None, refl, sym, ap, subst, ◌∙◌, arith}
 use Rattle.std.specs.Prelude.{◌==◌, nat_lt}
 use Rattle.std.proofs.lemmas.Bool.Decides.{nat_tests}
 use Rattle.label_codec.specs.declared.label.Label.{Label}
-use Rattle.module_labels.specs.Labels.{Module, first, first_below, has, label_if, number, of_uuid, one}
+use Rattle.module_labels.specs.Labels.{Module, first_below, has, label_if, number, of_uuid, one}
 use Rattle.module_labels.proofs.Counting.{IsFirst, count-one, count-same, first_below-cases, number-of_uuid}
 use Rattle.label_table.specs.Plain.{HasOnly, IsOnly}
 use Rattle.label_table.specs.Wholes.{any_label}

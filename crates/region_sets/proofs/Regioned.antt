@@ -1,5 +1,5 @@
 -- The region that a label belongs to, among those that are kept, and what becomes of the label by it.
-use Rattle.std.proofs.Common.{◌≡◌, ℕ, Bool, true, false, not, ◌&&◌, cond, List, [], ◌∷◌, Option, Some, None, map, refl, sym, ap, ◌∙◌}
+use Rattle.std.proofs.Common.{◌≡◌, ℕ, Bool, true, false, not, ◌&&◌, cond, List, [], ◌∷◌, Some, None, refl, sym, ◌∙◌}
 use Rattle.std.specs.Prelude.{find, is_some}
 use Rattle.std.specs.List.{All}
 use Rattle.std.specs.Option.{option_map}
@@ -11,7 +11,6 @@ use Rattle.region_map.specs.declared.platform.Platform.{Platform}
 use Rattle.region_map.specs.declared.platform.Region.{Region}
 use Rattle.label_table.specs.Belonging.{belongs, region_of}
 use Rattle.label_table.specs.Fates.{is_dead, is_held, is_unfinished, is_whole_in}
-use Rattle.label_table.specs.Wholes.{is_whole}
 use Rattle.label_table.proofs.ListTests.{find-some}
 use Rattle.region_sets.specs.declared.region.RegionLabels.{RegionLabels}
 use Rattle.region_sets.specs.Fates.{holds_in, is_dead_in, platform_of, region_in}

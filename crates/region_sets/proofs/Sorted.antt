@@ -1,17 +1,16 @@
 -- The namespaces that are sorted are the namespaces in their order.
-use Rattle.std.proofs.Common.{◌≡◌, ◌≢◌, ◌⊎◌, inl, inr, ⊎_elim, ℕ, zero, suc, ◌+◌, ◌≤◌, ◌<◌, Bool, true, false, cond, List, [], ◌∷◌, ◌++◌, length, get_or, map, refl, sym, ap, subst, ◌∙◌, arith}
+use Rattle.std.proofs.Common.{◌≡◌, ⊎_elim, ℕ, suc, ◌≤◌, ◌<◌, Bool, true, false, cond, List, [], ◌∷◌, length, get_or, map, refl, sym, ap, subst, ◌∙◌, arith}
 use Rattle.std.specs.Cmp.{IsTotalOrder, both_ways}
-use Rattle.std.specs.Cmp.Lexicographic.{slice_cmp}
 use Rattle.std.specs.List.{All, AllByRecursion, Contains, IsDistinct}
 use Rattle.std.specs.List.Sorted.{IsPermutation, IsSortedByKey}
-use Rattle.std.specs.Ordering.{is_lt, nat_cmp, ordering_then}
+use Rattle.std.specs.Ordering.{is_lt}
 use Rattle.std.specs.Str.{bytes_eq}
 use Rattle.std.proofs.lemmas.List.{get_or-map, length-map}
 use Rattle.std.proofs.lemmas.Cmp.{nat_cmp_total, nat_list_cmp_total, on_total, then_total}
 use Rattle.std.proofs.lemmas.List.Elements.{All-cons, All-head, All-nil, All-tail}
 use Rattle.std.proofs.lemmas.List.Sorted.{All-permutation, Contains-permutation, IsPermutation-cons, IsPermutation-map, IsPermutation-middle, IsPermutation-refl, IsPermutation-sym, IsPermutation-trans, ranks_by, sorted_far}
 use Rattle.std.proofs.lemmas.Slice.Eq.{bytes_eq-Decides}
-use Rattle.std.proofs.lemmas.Map.Keys.{IsDistinct-IsPermutation, IsDistinct-cons, IsDistinct-head, IsDistinct-tail}
+use Rattle.std.proofs.lemmas.Map.Keys.{IsDistinct-IsPermutation, IsDistinct-head, IsDistinct-tail}
 use Rattle.view_types.specs.declared.namespaces.Namespace.{Namespace}
 use Rattle.module_labels.specs.Labels.{Labels}
 use Rattle.region_map.specs.declared.platform.Region.{Region}
@@ -20,8 +19,7 @@ use Rattle.label_table.specs.Spaces.{Space, space}
 use Rattle.label_table.proofs.Listed.{namespaces-ascends, namespaces-from}
 use Rattle.label_table.proofs.ListTests.{Contains-cases, Contains-here, Contains-none, Contains-there, some_is, uuid_differs, uuid_other}
 use Rattle.label_table.proofs.Order.{Ascends, Before, before-asym, before-total, one-list}
-use Rattle.region_sets.specs.declared.namespaces.SpaceKey.{SpaceKey}
-use Rattle.region_sets.specs.Marks.{listed, listed_in}
+use Rattle.region_sets.specs.Marks.{listed_in}
 use Rattle.region_sets.specs.Namespaces.{key_cmp, space_key}
 use Rattle.region_sets.specs.Statuses.{space_in}
 

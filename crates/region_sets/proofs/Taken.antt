@@ -1,5 +1,5 @@
 -- The offsets that the ranges have are those that namespaces have or held labels hold.
-use Rattle.std.proofs.Common.{◌≡◌, ℕ, zero, suc, ◌+◌, ◌-◌, ◌<◌, ◌≤◌, Bool, true, false, not, ◌&&◌, cond, List, [], ◌∷◌, ◌++◌, drop, length, Option, Some, None, map, refl, sym, ap, ◌∙◌, arith}
+use Rattle.std.proofs.Common.{◌≡◌, ℕ, zero, suc, ◌+◌, ◌-◌, ◌≤◌, Bool, true, false, not, ◌&&◌, cond, List, [], ◌∷◌, ◌++◌, drop, length, Option, Some, None, map, refl, sym, ap, ◌∙◌, arith}
 use Rattle.std.specs.Prelude.{◌==◌, ◌||◌, count_by, nat_le, nat_lt}
 use Rattle.std.specs.List.{list_any}
 use Rattle.std.specs.Option.{option_and_then, option_to_list}
@@ -15,7 +15,7 @@ use Rattle.module_labels.specs.Labels.{Labels, count, one}
 use Rattle.region_map.specs.declared.platform.Member.{Member}
 use Rattle.region_map.specs.declared.platform.Platform.{Platform}
 use Rattle.region_map.specs.declared.platform.Region.{Region}
-use Rattle.label_table.specs.Division.{AreFreeExtents, has_address, has_offset, holds, is_common_free, is_held_at, namespaces_over, part_size}
+use Rattle.label_table.specs.Division.{AreFreeExtents, has_address, has_offset, holds, is_common_free, part_size}
 use Rattle.label_table.specs.Fates.{is_held, without_slot}
 use Rattle.label_table.specs.Namespaces.{namespaces}
 use Rattle.label_table.specs.Spaces.{Space}

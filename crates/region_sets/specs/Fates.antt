@@ -1,5 +1,5 @@
 -- The platform of regions that are kept.
-use Rattle.std.specs.Prelude.{ℕ, ◌&&◌, Bool, not, List, [], Some, map}
+use Rattle.std.specs.Prelude.{◌&&◌, Bool, not, List, [], Some, map}
 use Rattle.label_codec.specs.declared.label.Label.{Label}
 use Rattle.label_codec.specs.Flags.{is_read_only, is_updating}
 use Rattle.module_labels.specs.Labels.{Labels}

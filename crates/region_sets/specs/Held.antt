@@ -1,5 +1,5 @@
 -- The held labels of a module as they are listed, and its spare slots.
-use Rattle.std.specs.Prelude.{◌≡◌, ℕ, zero, suc, ◌-◌, ◌==◌, Bool, false, not, List, [], ◌∷◌, ◌++◌, Option, None, Some, if◌then◌else◌}
+use Rattle.std.specs.Prelude.{ℕ, zero, suc, ◌-◌, Bool, false, not, List, [], ◌++◌, Option, None, Some, if◌then◌else◌}
 use Rattle.std.specs.List.Sorted.{IsPermutation, IsSortedByKey}
 use Rattle.std.specs.Option.{option_cmp, option_map, option_map_or, option_to_list}
 use Rattle.std.specs.Cmp.Lexicographic.{slice_cmp}

@@ -1,5 +1,5 @@
 -- The labels of modules, as they are loaded.
-use Rattle.std.specs.Prelude.{◌≡◌, ◌≢◌, ℕ, ◌==◌, ◌<◌, Bool, List, Option, Some, None, find, length, slice_index_or}
+use Rattle.std.specs.Prelude.{◌≢◌, ℕ, ◌==◌, ◌<◌, Bool, List, Option, Some, None, find, length, slice_index_or}
 use Rattle.module_labels.specs.declared.kind.AreaKind.{AreaKind}
 use Rattle.module_labels.specs.declared.kind.AreaKind.TheVariants as kind
 use Rattle.module_labels.specs.Labels.{Labels, Module}

@@ -6,7 +6,6 @@ use Rattle.label_codec.specs.declared.label.Label.{Label}
 use Rattle.module_labels.specs.Labels.{Labels, number}
 use Rattle.region_map.specs.declared.platform.Member.{Member}
 use Rattle.region_map.specs.declared.platform.Region.{Region}
-use Rattle.label_table.specs.Belonging.{member_at}
 use Rattle.label_table.specs.Wholes.{has_one}
 use Rattle.uuid_index.specs.Labels.{IsIndex}
 use Rattle.region_sets.specs.declared.modules.LoadedModule.{LoadedModule}
@@ -35,7 +34,8 @@ pub record IsOver (modules : List LoadedModule) (kept : RegionLabels) : Type 0 w
   pub index : IsIndex (handles kept.region) (labels_in modules) kept.index.entries
 
 -- the module of a member has one label with the uuid, which agrees with the leading one, and it is this
-pub record IsOneAgreeing (region : Region) (leading : Label) (own : Labels) (member : Member) (label : Label) : Type 0 where
+pub record IsOneAgreeing (region : Region) (leading : Label) (own : Labels) (member : Member)
+    (label : Label) : Type 0 where
   pub one : has_one region leading own member ≡ true
   pub passes : (test : Label → Bool) → number test (own member.handle) ≡ (if test label then 1 else 0)
 

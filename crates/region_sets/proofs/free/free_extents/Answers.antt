@@ -1,8 +1,7 @@
-use Rattle.std.proofs.Common.{◌≡◌, ◌≤◌, List, length, ap, subst, ◌∙◌, arith}
+use Rattle.std.proofs.Common.{◌≡◌, ◌≤◌, length, ap, subst, ◌∙◌, arith}
 use Rattle.std.proofs.lemmas.Result.{IfOk-weaker}
 use Rattle.extent_alloc.specs.Free.{FreeSpace, is_outside}
 use Rattle.view_types.specs.Intervals.{AreMaximal}
-use Rattle.region_map.specs.declared.platform.Member.{Member}
 use Rattle.label_table.specs.Division.{part_size, size_among}
 use Rattle.region_sets.specs.Fates.{platform_of}
 use Rattle.region_sets.specs.Modules.{labels_in}

@@ -1,6 +1,5 @@
-use Rattle.std.proofs.Common.{◌≡◌, ◌+◌, ◌<◌, ◌≤◌, not, sym, ◌∙◌, arith}
+use Rattle.std.proofs.Common.{◌<◌, not, sym, ◌∙◌, arith}
 use Rattle.label_codec.specs.declared.label.Label.{Label}
-use Rattle.module_labels.specs.Labels.{count}
 use Rattle.module_labels.proofs.Counting.{count-le}
 use Rattle.label_table.specs.Fates.{is_dead}
 use Rattle.region_sets.specs.Fates.{platform_of}

@@ -1,5 +1,4 @@
 use Rattle.std.proofs.Common.{◌≡◌, ◌<◌, ◌+◌, ◌++◌, List, length, drop, refl, sym, ap, ◌∙◌, arith}
-use Rattle.label_table.specs.Belonging.{member_at}
 use Rattle.uuid_index.specs.declared.entry.Entry.{Entry}
 use Rattle.uuid_index.specs.Labels.{entries_from, entries_of}
 use Rattle.uuid_index.proofs.Collecting.{entries_from-next}

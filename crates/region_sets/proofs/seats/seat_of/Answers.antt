@@ -1,4 +1,4 @@
-use Rattle.std.proofs.Common.{◌≡◌, ◌<◌, length, sym, ◌∙◌, arith}
+use Rattle.std.proofs.Common.{◌<◌, length, sym, ◌∙◌, arith}
 use Rattle.std.proofs.lemmas.List.{get_or-map, length-map}
 use Rattle.region_sets.specs.declared.modules.LoadedModule.{LoadedModule}
 use Rattle.region_sets.specs.declared.modules.ModuleArea.TheVariants.{Missing}

@@ -1,5 +1,4 @@
 use Rattle.std.proofs.Common.{sym}
-use Rattle.module_labels.specs.Labels.{Labels}
 use Rattle.label_table.specs.Belonging.{member_at}
 use Rattle.uuid_index.specs.declared.index.Found.TheVariants.{Nowhere, Once, Repeated}
 use Rattle.region_sets.proofs.Found.{above-many, above-none, above-one}

@@ -1,4 +1,4 @@
-use Rattle.std.proofs.Common.{◌≡◌, ◌<◌, length, Some, sym, ap, ◌∙◌, arith}
+use Rattle.std.proofs.Common.{◌<◌, length, Some, sym, ap, ◌∙◌, arith}
 use Rattle.region_sets.specs.Modules.{labels_in}
 use Rattle.region_sets.proofs.Marked.{is-namespace, leading-is}
 use Rattle.region_sets.proofs.region.RegionLabels.namespace.Goals as goal

@@ -1,6 +1,5 @@
-use Rattle.std.proofs.Common.{◌≡◌, ◌++◌, List, Option, ap, ◌∙◌}
+use Rattle.std.proofs.Common.{◌++◌, ◌∙◌}
 use Rattle.std.specs.Option.{option_and_then, option_to_list}
-use Rattle.view_types.specs.declared.namespaces.Namespace.{Namespace}
 use Rattle.label_codec.specs.declared.label.Label.{Label}
 use Rattle.region_sets.specs.Marks.{namespace_at}
 use Rattle.region_sets.specs.Modules.{labels_in, module_in}

@@ -1,4 +1,4 @@
-use Rattle.std.proofs.Common.{◌≡◌, sym, ap, subst, ◌∙◌}
+use Rattle.std.proofs.Common.{sym, ap, subst, ◌∙◌}
 use Rattle.module_labels.specs.Labels.{Module}
 use Rattle.label_table.specs.Belonging.{member_at}
 use Rattle.label_table.specs.Plain.{IsOnly}
