@@ -1,0 +1,5 @@
+pub mod Loaded
+pub mod Standing
+pub mod Platforms
+pub mod Frees
+pub mod Viewed

@@ -1,0 +1,80 @@
+-- What is kept of an area that was loaded is what the area that is stored stands for.
+use Rattle.std.proofs.Common.{◌≡◌, ◌≢◌, ℕ, Bool, true, false, List, [], length, Option, Some, None, Result, Ok, Err, refl, sym, ap, ◌∙◌}
+use Rattle.std.specs.Prelude.{IfOk, unwrap_or}
+use Rattle.std.specs.FinMap.{get}
+use Rattle.std.specs.Option.{option_and_then}
+use Rattle.rig_trait.specs.declared.shown.Shown.{Ghosts}
+use Rattle.rig_trait.specs.Areas.{Areas}
+use Rattle.rig_trait.specs.Frames.{FailsAt}
+use Rattle.index_block.specs.declared.geometry.Geometry.{Geometry}
+use Rattle.index_block.specs.Geometry.{geometry_of}
+use Rattle.module_labels.specs.declared.kind.AreaKind.{AreaKind}
+use Rattle.module_labels.specs.declared.kind.AreaKind.TheVariants as kind
+use Rattle.module_labels.specs.Labels.{Module}
+use Rattle.label_area.specs.declared.blocks.Current.{Current}
+use Rattle.label_area.specs.declared.load.AreaFault.{AreaFault}
+use Rattle.label_area.specs.declared.load.AreaFault.TheVariants as fault
+use Rattle.label_area.specs.Blocks.{current_block, current_in}
+use Rattle.label_area.specs.Faults.{is_load_failed}
+use Rattle.label_area.specs.LoadedAreas.{LoadedArea}
+use Rattle.label_area.specs.Loads.{Loads}
+use Rattle.label_area.specs.Modules.{area_kind, live_by, module_at, module_of, slots_by}
+use Rattle.label_area.proofs.Shown.{ready_is}
+use Rattle.region_sets.specs.declared.modules.LoadedModule.{LoadedModule}
+use Rattle.region_sets.specs.declared.modules.ModuleArea.{ModuleArea}
+use Rattle.region_sets.specs.declared.modules.ModuleArea.TheVariants.{Missing, WrongSize, Uninit, Foreign, Ready}
+use Rattle.region_sets.specs.Modules.{module_in, without_labels}
+use Rattle.region_sets.specs.Modules as loaded
+use Rattle.label_sets.specs.Loads.{HasCause, StandsIn, StoredAs, area_by}
+
+-- an area that is not Ready has no labels
+no_block : (bytes : List ℕ) → area_kind (Some bytes) ≢ kind.Ready → current_block (Some bytes) ≡ None
+no_block bytes differ = by (geometry_of (length bytes) 256) refl
+  where
+    by : (o : Option Geometry) → geometry_of (length bytes) 256 ≡ o → current_block (Some bytes) ≡ None
+    by None e = ap (option_and_then (λ g. current_in g bytes)) e
+    by (Some g) e = at (current_in g bytes) refl
+      where
+        at : (current : Option Current) → current_in g bytes ≡ current → current_block (Some bytes) ≡ None
+        at None none = ap (option_and_then (λ h. current_in h bytes)) e ∙ none
+        at (Some current) is = absurd (differ (ready_is bytes g e current is))
+
+pub unready : (stored : Option (List ℕ)) (k : AreaKind) → area_kind stored ≡ k → k ≢ kind.Ready → without_labels k ≡ module_of stored
+unready None k is differ = ap without_labels (sym is)
+unready (Some bytes) k is differ =
+    let none : current_block (Some bytes) ≡ None = no_block bytes (λ e. differ (sym is ∙ e)) in
+    sym (λ i. record { kind = is i; slots = slots_by (none i); at = live_by (none i) bytes })
+
+stored-module : (areas : Areas) (dimm : ℕ) (area : ModuleArea) → StoredAs areas dimm area → loaded.module_of area ≡ module_at areas dimm
+stored-module areas dimm Missing is = unready (get areas dimm) kind.Missing is (λ e. absurd cc)
+stored-module areas dimm (WrongSize size) is = unready (get areas dimm) kind.WrongSize is.0 (λ e. absurd cc)
+stored-module areas dimm (Uninit size) is = unready (get areas dimm) kind.Uninit is.0 (λ e. absurd cc)
+stored-module areas dimm (Foreign size) is = unready (get areas dimm) kind.Foreign is.0 (λ e. absurd cc)
+stored-module areas dimm (Ready area) stored = sym stored.1.module_is ∙ ap (module_at areas) stored.0
+
+pub stands-module : (areas : Areas) (m : LoadedModule) → StandsIn areas m → module_in m ≡ module_at areas m.dimm
+stands-module areas m stands = stored-module areas m.dimm m.area stands
+
+-- what was loaded stands in the areas
+pub loads-stored : (dimm : ℕ) (areas : Areas) (result : Result LoadedArea AreaFault) → Loads dimm areas result → IfOk result (λ area. area.dimm ≡ dimm) → IfOk (area_by dimm result) (StoredAs areas dimm)
+loads-stored dimm areas (Ok area) shown same = (same, shown)
+loads-stored dimm areas (Err fault.Missing) is same = is.kind_is
+loads-stored dimm areas (Err (fault.WrongSize size)) is same = (is.kind_is, is.size_is)
+loads-stored dimm areas (Err (fault.Uninit size)) is same = (is.kind_is, is.size_is)
+loads-stored dimm areas (Err (fault.Foreign size)) is same = (is.kind_is, is.size_is)
+loads-stored dimm areas (Err fault.Failed) is same = tt
+loads-stored dimm areas (Err fault.Memory) is same = tt
+
+-- and where it wasn't, the rig failed there, or memory was refused
+module _ {R : Type 0} (m : Ghosts R) (old new : R) (dimm : ℕ) where
+  unnamed : FailsAt dimm m old new false → FailsAt 0 m old new false
+  unnamed f = record { faults = f.faults; failed_dimm = f.failed_dimm }
+
+  pub loads-cause : (result : Result LoadedArea AreaFault) → FailsAt dimm m old new (is_load_failed result) → HasCause m old new (area_by dimm result)
+  loads-cause (Ok area) f = unnamed f
+  loads-cause (Err fault.Missing) f = unnamed f
+  loads-cause (Err (fault.WrongSize size)) f = unnamed f
+  loads-cause (Err (fault.Uninit size)) f = unnamed f
+  loads-cause (Err (fault.Foreign size)) f = unnamed f
+  loads-cause (Err fault.Failed) f = f
+  loads-cause (Err fault.Memory) f = unnamed f

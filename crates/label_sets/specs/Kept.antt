@@ -1,0 +1,37 @@
+-- What is kept beside the modules: the index and the free extents of each region.
+use Rattle.std.specs.Prelude.{◌≡◌, ℕ, ◌<◌, ◌^◌, List, length, map, slice_index_or}
+use Rattle.std.specs.List.{All}
+use Rattle.extent_alloc.specs.Free.{FreeSpace}
+use Rattle.region_map.specs.declared.platform.Region.{Region}
+use Rattle.label_table.specs.Division.{AreFreeExtents, part_size}
+use Rattle.region_sets.specs.declared.modules.LoadedModule.{LoadedModule}
+use Rattle.region_sets.specs.declared.region.RegionLabels.{RegionLabels}
+use Rattle.region_sets.specs.Fates.{platform_of, region_in}
+use Rattle.region_sets.specs.Modules.{labels_in}
+use Rattle.region_sets.specs.Regions.{IsOver}
+use Rattle.label_sets.specs.declared.sets.Sets.TheInside.{Inside}
+use Rattle.label_sets.specs.Sets.{StoredSets}
+
+-- the free space of a region is what the labels of all modules leave
+pub record IsFree (modules : List LoadedModule) (regions : List RegionLabels) (kept : RegionLabels)
+    (free : FreeSpace) : Type 0 where
+  pub extents : AreFreeExtents (platform_of regions) (labels_in modules) kept.region free.extents
+  pub whole : free.whole ≡ part_size kept.region
+
+-- each region has its free space
+pub record AllFree (modules : List LoadedModule) (regions : List RegionLabels) (free : List FreeSpace) : Type 0 where
+  pub each : length free ≡ length regions
+  pub is : (place : ℕ) (d : RegionLabels) (e : FreeSpace) → place < length regions
+      → IsFree modules regions (slice_index_or regions place d) (slice_index_or free place e)
+
+-- a region has few members
+abbrev pub HasFewMembers : RegionLabels → Type 0
+HasFewMembers kept = length kept.region.members < 2 ^ 16
+
+abbrev pub shown : Inside → StoredSets
+shown sets = record { regions = map region_in sets.regions.items; modules = sets.modules.items; room = sets.room }
+
+pub record IsKept (sets : Inside) : Type 0 where
+  pub over : All (IsOver sets.modules.items) sets.regions.items
+  pub free : AllFree sets.modules.items sets.regions.items sets.free.items
+  pub few : All HasFewMembers sets.regions.items

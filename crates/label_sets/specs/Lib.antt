@@ -1,0 +1,5 @@
+pub mod Loads
+pub mod Codes
+pub mod Sets
+pub mod Kept
+pub mod Views

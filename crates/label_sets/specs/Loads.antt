@@ -1,0 +1,52 @@
+-- What is loaded of the areas of all modules.
+use Rattle.std.specs.Prelude.{◌≡◌, ℕ, ◌==◌, Bool, true, false, List, Result, Ok, Err, Some, if◌then◌else◌}
+use Rattle.std.specs.FinMap.{get}
+use Rattle.std.specs.List.{list_any}
+use Rattle.rig_trait.specs.declared.shown.Shown.{Ghosts}
+use Rattle.rig_trait.specs.Areas.{Areas, size_in}
+use Rattle.rig_trait.specs.Frames.{FailsAt}
+use Rattle.module_labels.specs.declared.kind.AreaKind.TheVariants as kind
+use Rattle.module_labels.specs.Labels.{Labels}
+use Rattle.label_area.specs.LoadedAreas.{LoadedArea}
+use Rattle.label_area.specs.Loads.{IsShown}
+use Rattle.label_area.specs.Modules.{area_kind, module_at}
+use Rattle.label_area.specs.declared.load.AreaFault.{AreaFault}
+use Rattle.label_area.specs.declared.load.AreaFault.TheVariants as fault
+use Rattle.region_sets.specs.declared.modules.LoadedModule.{LoadedModule}
+use Rattle.region_sets.specs.declared.modules.ModuleArea.{ModuleArea}
+use Rattle.region_sets.specs.declared.modules.ModuleArea.TheVariants.{Missing, WrongSize, Uninit, Foreign, Ready}
+use Rattle.region_sets.specs.Modules.{without_labels}
+use Rattle.label_sets.specs.declared.load.SetFault.{SetFault}
+use Rattle.label_sets.specs.declared.load.SetFault.TheVariants.{Failed, Memory}
+
+-- what is kept of an area that was loaded
+abbrev pub area_by : ℕ → Result LoadedArea AreaFault → Result ModuleArea SetFault
+area_by dimm (Ok area) = Ok (Ready area)
+area_by dimm (Err fault.Missing) = Ok Missing
+area_by dimm (Err (fault.WrongSize size)) = Ok (WrongSize size)
+area_by dimm (Err (fault.Uninit size)) = Ok (Uninit size)
+area_by dimm (Err (fault.Foreign size)) = Ok (Foreign size)
+area_by dimm (Err fault.Failed) = Err (Failed dimm)
+area_by dimm (Err fault.Memory) = Err Memory
+
+-- what is kept of a module's area is the area that is stored
+abbrev pub StoredAs : Areas → ℕ → ModuleArea → Type 0
+StoredAs areas dimm Missing = area_kind (get areas dimm) ≡ kind.Missing
+StoredAs areas dimm (WrongSize size) = (area_kind (get areas dimm) ≡ kind.WrongSize) × (size_in areas dimm ≡ Some size)
+StoredAs areas dimm (Uninit size) = (area_kind (get areas dimm) ≡ kind.Uninit) × (size_in areas dimm ≡ Some size)
+StoredAs areas dimm (Foreign size) = (area_kind (get areas dimm) ≡ kind.Foreign) × (size_in areas dimm ≡ Some size)
+StoredAs areas dimm (Ready area) = (area.dimm ≡ dimm) × IsShown area areas
+
+abbrev pub StandsIn : Areas → LoadedModule → Type 0
+StandsIn areas loaded = StoredAs areas loaded.dimm loaded.area
+
+-- the labels in the areas of some modules. The areas of others are not looked at.
+abbrev pub stored_labels : List ℕ → Areas → Labels
+stored_labels modules areas handle =
+    if list_any (λ dimm. dimm == handle) modules then module_at areas handle else without_labels kind.Missing
+
+-- No call of the rig failed, or the last one did, and the fault names its module.
+abbrev pub HasCause : {R T : Type 0} → Ghosts R → R → R → Result T SetFault → Type 0
+HasCause m old new (Ok value) = FailsAt 0 m old new false
+HasCause m old new (Err (Failed dimm)) = FailsAt dimm m old new true
+HasCause m old new (Err Memory) = FailsAt 0 m old new false

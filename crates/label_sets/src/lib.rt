@@ -1,0 +1,14 @@
+//! The state that the label storage areas of all modules stand for, as it is read and shown (UEFI 2.7, section 13.19).
+#![tactic(auto)]
+
+mod load;
+mod read;
+mod sets;
+mod views;
+
+pub use load::SetFault;
+pub use read::read_state;
+pub use sets::Sets;
+
+#[cfg(test)]
+mod tests;

@@ -1,0 +1,85 @@
+//! The areas of all modules are loaded.
+
+ghost use Rattle.std.specs.Prelude.{◌≡◌, IfOk, map};
+ghost use Rattle.std.specs.List.{All};
+ghost use Rattle.rig_trait.specs.Frames.{IsTold, Reads};
+ghost use Rattle.region_sets.specs.Modules.{dimm_of};
+ghost use Rattle.label_sets.specs.Loads.{HasCause, StandsIn, area_by};
+ghost use Rattle.label_sets.specs.declared.load.SetFault.TheVariants.{Memory};
+
+use label_area::{Area, AreaFault};
+use region_sets::{LoadedModule, ModuleArea};
+use rig_trait::Rig;
+use std::alloc::{AllocError, AllocFailed, Global};
+
+/// Why the state isn't read.
+#[derive(Clone, Copy, Debug, PartialEq, Eq)]
+pub enum SetFault {
+    /// The rig failed, at the area of this module.
+    Failed { dimm: u32 },
+    /// Memory was refused.
+    Memory,
+}
+
+impl From<AllocError> for SetFault {
+    ghost from_gives = { λ _ fault. fault ≡ Memory };
+
+    fn from(_: AllocError) -> SetFault {
+        SetFault::Memory
+    }
+}
+
+impl<T: Drop> From<AllocFailed<T>> for SetFault {
+    ghost from_gives = { λ _ fault. fault ≡ Memory };
+
+    fn from(_: AllocFailed<T>) -> SetFault {
+        SetFault::Memory
+    }
+}
+
+/// Loads the areas of these modules, in their order: one call for the size of each, and at most one that reads it.
+pub(crate) fn load_modules<R: Rig>(
+    alloc: Global,
+    rig: &mut R,
+    handles: &[u32],
+) -> Result<Vec<LoadedModule>, SetFault>
+    ensures stands { IsTold R.Shown rig.old → IfOk result (λ modules. All (StandsIn (R.areas rig.old)) modules.items) }
+    ensures handles { IfOk result (λ modules. map dimm_of modules.items ≡ handles.now) }
+    ensures reads_only { Reads R.Shown rig.old rig.new }
+    ensures cause { HasCause R.Shown rig.old rig.new result }
+{
+    let mut modules = Vec::with_capacity(alloc, handles.len())?;
+    for dimm in handles {
+        let loaded = load_module(alloc, rig, *dimm)?;
+        modules.push(loaded)?;
+    }
+    Ok(modules)
+}
+
+fn load_module<R: Rig>(alloc: Global, rig: &mut R, dimm: u32) -> Result<LoadedModule, SetFault>
+    ensures stands { IsTold R.Shown rig.old → IfOk result (StandsIn (R.areas rig.old)) }
+    ensures dimm { IfOk result (λ loaded. loaded.dimm ≡ dimm) }
+    ensures reads_only { Reads R.Shown rig.old rig.new }
+    ensures cause { HasCause R.Shown rig.old rig.new result }
+{
+    let loaded = Area::load(alloc, rig, dimm);
+    match area_of(dimm, loaded) {
+        Ok(area) => Ok(LoadedModule { dimm, area }),
+        Err(fault) => Err(fault),
+    }
+}
+
+/// What is kept of an area that was loaded.
+fn area_of(dimm: u32, loaded: Result<Area, AreaFault>) -> Result<ModuleArea, SetFault>
+    ensures { result ≡ area_by dimm loaded }
+{
+    match loaded {
+        Ok(area) => Ok(ModuleArea::Ready(area)),
+        Err(AreaFault::Missing) => Ok(ModuleArea::Missing),
+        Err(AreaFault::WrongSize { size }) => Ok(ModuleArea::WrongSize { size }),
+        Err(AreaFault::Uninit { size }) => Ok(ModuleArea::Uninit { size }),
+        Err(AreaFault::Foreign { size }) => Ok(ModuleArea::Foreign { size }),
+        Err(AreaFault::Failed) => Err(SetFault::Failed { dimm }),
+        Err(AreaFault::Memory) => Err(SetFault::Memory),
+    }
+}

@@ -1,0 +1,75 @@
+//! The state is read.
+
+ghost use Rattle.std.specs.Prelude.{◌≡◌, IfOk, false, map};
+ghost use Rattle.std.specs.List.{All};
+ghost use Rattle.region_map.specs.Platforms.{IsSound};
+ghost use Rattle.rig_trait.specs.Frames.{IsTold, Reads};
+ghost use Rattle.region_sets.specs.Fates.{region_in};
+ghost use Rattle.region_sets.specs.Modules.{dimm_of};
+ghost use Rattle.region_sets.specs.Regions.{IsOver};
+ghost use Rattle.label_sets.specs.Kept.{AllFree, HasFewMembers};
+ghost use Rattle.label_sets.specs.Loads.{HasCause, StandsIn, stored_labels};
+ghost use Rattle.label_sets.specs.Sets.{labels_in};
+
+use crate::load::{SetFault, load_modules};
+use crate::sets::Sets;
+use extent_alloc::Extents;
+use region_map::Platform;
+use region_sets::{LoadedModule, RegionLabels, free_extents};
+use rig_trait::Rig;
+use std::alloc::{AllocError, Global};
+
+/// Reads the state that the areas of a platform's modules stand for, whatever they hold. Areas of other modules are
+/// left alone.
+pub fn read_state<R: Rig>(alloc: Global, platform: &Platform, rig: &mut R) -> Result<Sets, SetFault>
+    requires { IsSound platform.now }
+    ensures stands { IsTold R.Shown rig.old → IfOk result
+        (λ sets. labels_in sets ≡ stored_labels platform.now.modules (R.areas rig.old)) }
+    ensures areas { IsTold R.Shown rig.old → IfOk result (λ sets. All (StandsIn (R.areas rig.old)) sets.modules) }
+    ensures regions { IfOk result (λ sets. sets.regions ≡ platform.now.regions) }
+    ensures modules { IfOk result (λ sets. map dimm_of sets.modules ≡ platform.now.modules) }
+    ensures room { IfOk result (λ sets. sets.room ≡ false) }
+    ensures reads_only { Reads R.Shown rig.old rig.new }
+    ensures cause { HasCause R.Shown rig.old rig.new result }
+{
+    let modules = load_modules(alloc, rig, platform.modules.as_slice())?;
+    let regions = regions_over(alloc, &modules, platform)?;
+    let free = free_in(alloc, &modules, &regions)?;
+    Ok(Sets::of(modules, regions, free))
+}
+
+/// The regions of a platform over its modules.
+fn regions_over(
+    alloc: Global,
+    modules: &[LoadedModule],
+    platform: &Platform,
+) -> Result<Vec<RegionLabels>, AllocError>
+    requires sound { IsSound platform.now }
+    requires modules { map dimm_of modules.now ≡ platform.now.modules }
+    ensures over { IfOk result (λ regions. All (IsOver modules.now) regions.items) }
+    ensures regions { IfOk result (λ regions. map region_in regions.items ≡ platform.now.regions) }
+    ensures few { IfOk result (λ regions. All HasFewMembers regions.items) }
+{
+    let mut regions = Vec::new(alloc);
+    for region in platform.regions.as_slice() {
+        regions.push(RegionLabels::of(alloc, modules, region)?)?;
+    }
+    Ok(regions)
+}
+
+/// The free extents of each region.
+fn free_in(
+    alloc: Global,
+    modules: &[LoadedModule],
+    regions: &[RegionLabels],
+) -> Result<Vec<Extents>, AllocError>
+    requires { All (IsOver modules.now) regions.now }
+    ensures { IfOk result (λ free. AllFree modules.now regions.now free.items) }
+{
+    let mut free = Vec::new(alloc);
+    for kept in regions {
+        let spaces = kept.namespaces(alloc, modules)?;
+        free.push(free_extents(alloc, modules, regions, kept, &spaces)?)?;
+    }
+    Ok(free)
+}
