@@ -513,7 +513,8 @@ fn initialised(alloc: Global, slots: [u8; 256]) -> Result<Vec<u8>, AllocError> {
 fn initialise(rt: HostRuntime) -> Result<(), Fail> {
     let alloc = rt.alloc();
     let other = small_area(alloc, &[FREE; 4])?;
-    let mut rig = rig_of(alloc, &small_area(alloc, &[ZEROS; 4])?)?;
+    let mut rig = MemoryRig::new(alloc, 4096)?;
+    rig.add(1, small_area(alloc, &[ZEROS; 4])?)?;
     rig.add(2, other.clone()?)?;
     let rows = [
         INITIALISE,

@@ -1,7 +1,7 @@
 -- What calls of a rig, one after the other, change and keep together.
-use Rattle.std.proofs.Common.{◌≡◌, ◌⊎◌, ℕ, Bool, false, ⊎_elim, ◌∙◌, arith}
+use Rattle.std.proofs.Common.{◌≡◌, ◌⊎◌, ℕ, ⊎_elim, ◌∙◌, arith}
 use Rattle.rig_trait.specs.declared.shown.Shown.{Ghosts}
-use Rattle.rig_trait.specs.Frames.{FailsAt, GoesOn, LeavesOnly, Reads, WritesTo}
+use Rattle.rig_trait.specs.Frames.{GoesOn, LeavesOnly, Reads, WritesTo}
 use Rattle.rig_trait.specs.Records.{CrashRecord}
 use Rattle.rig_trait.proofs.Moments.{a_call, followed, in_words}
 

@@ -2,3 +2,8 @@ pub mod StoredAreas
 pub mod WrittenAreas
 pub mod Moments
 pub mod Frames
+pub mod Undoing
+pub mod Keeping
+pub mod Lying
+pub mod Entries
+pub mod Stopping

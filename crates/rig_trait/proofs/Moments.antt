@@ -1,5 +1,5 @@
 -- What a stop at any moment of several calls leaves, from what one within each call leaves.
-use Rattle.std.proofs.Common.{◌⊎◌, ◌≤◌, ℕ, inl, inr, ⊎_elim, arith}
+use Rattle.std.proofs.Common.{◌⊎◌, inl, inr, ⊎_elim, arith}
 use Rattle.rig_trait.specs.declared.shown.Shown.{Ghosts}
 use Rattle.rig_trait.specs.Frames.{Elapses, LeavesOnly}
 use Rattle.rig_trait.specs.Records.{CrashRecord}

@@ -1,5 +1,5 @@
 -- What the areas are after a write.
-use Rattle.std.proofs.Common.{◌≡◌, ◌≢◌, ℕ, ◌+◌, ◌≤◌, List, [], length, drop, Some, None, Result, Ok, Err, refl, sym, ap, inl, inr, ◌∙◌, append_assoc, rules, arith}
+use Rattle.std.proofs.Common.{◌≡◌, ◌≢◌, ℕ, ◌+◌, ◌≤◌, List, [], length, drop, Option, Some, None, Result, Ok, Err, refl, sym, ap, inl, inr, ◌∙◌, append_assoc, rules, arith}
 use Rattle.std.proofs.lemmas.Bool.{cases_eq}
 use Rattle.std.proofs.lemmas.Cmp.{nat_cmp_total}
 use Rattle.std.proofs.lemmas.List.{take-append-drop, drop-drop, length-take, length-drop}
@@ -7,9 +7,9 @@ use Rattle.std.specs.Prelude.{IsSome, unwrap_or}
 use Rattle.std.specs.Option.{option_map}
 use Rattle.std.specs.FinMap.{get, gets, same_map, nat_cmp-IsAntisymmetric}
 use Rattle.byte_ranges.specs.Ranges.{range, patched}
-use Rattle.byte_ranges.proofs.Patched.{length-patched}
+use Rattle.byte_ranges.proofs.Patched.{length-patched, patched-patched}
 use Rattle.rig_trait.specs.declared.rig.Failed.{Failed}
-use Rattle.rig_trait.specs.Areas.{Areas, area, written, IsWithin, OthersKept, SizesKept, size_in}
+use Rattle.rig_trait.specs.Areas.{Areas, area, bytes_in, written, IsWithin, OthersKept, SizesKept}
 use Rattle.rig_trait.specs.Records.{Writes}
 
 get-area : (areas : Areas) (dimm : ℕ) → IsSome (get areas dimm) → get areas dimm ≡ Some (area areas dimm)
@@ -74,3 +74,30 @@ IsWithin-written areas dimm at put q from n within inside = elim (cases_eq q dim
 -- a write leaves all other areas
 pub OthersKept-writes : {T : Type 0} → (old new : Areas) (dimm at : ℕ) (put : List ℕ) (result : Result T Failed) → Writes old new dimm at put result → OthersKept dimm old new
 OthersKept-writes old new dimm at put result writes q other = ap (λ areas. get areas q) writes.areas_are ∙ get-written_other old dimm at writes.garbage q other
+
+-- of two writes into one range, the second stands
+written_twice : (areas : Areas) (dimm at : ℕ) (first second : List ℕ) → length first ≡ length second → IsWithin areas dimm at (length second)
+    → written (written areas dimm at first) dimm at second ≡ written areas dimm at second
+written_twice areas dimm at first second same within = same_map nat_cmp_total nat_cmp-IsAntisymmetric _ _ (λ q. elim (cases_eq q dimm) [
+  | inl is ↦ rw is (
+      get-written (written areas dimm at first) dimm at second
+      ∙ ap (λ (o : Option (List ℕ)). Some (patched (unwrap_or o []) at second)) (get-written areas dimm at first)
+      ∙ ap (λ (bytes : List ℕ). Some bytes) (patched-patched (area areas dimm) first second at same within.fits)
+      ∙ sym (get-written areas dimm at second)
+      )
+  | inr other ↦
+      get-written_other (written areas dimm at first) dimm at second q other
+      ∙ get-written_other areas dimm at first q other
+      ∙ sym (get-written_other areas dimm at second q other)
+])
+
+-- the old bytes put back
+pub written_back : (areas : Areas) (dimm at : ℕ) (put : List ℕ) → IsWithin areas dimm at (length put)
+    → written (written areas dimm at put) dimm at (bytes_in areas dimm at (length put)) ≡ areas
+written_back areas dimm at put within =
+    let long = length-range (area areas dimm) at (length put) within.fits in
+    written_twice areas dimm at put (range (area areas dimm) at (length put)) (sym long) (rw long within)
+    ∙ written_same areas dimm at (length put) within
+
+pub length-bytes_in : (areas : Areas) (dimm at n : ℕ) → IsWithin areas dimm at n → length (bytes_in areas dimm at n) ≡ n
+length-bytes_in areas dimm at n within = length-range (area areas dimm) at n within.fits

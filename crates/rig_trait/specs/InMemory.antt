@@ -1,5 +1,6 @@
 -- What the fields of a rig in memory stand for.
-use Rattle.std.specs.Prelude.{◌≤◌, vec_len, vec_capacity}
+use Rattle.std.specs.Prelude.{◌≤◌, vec_capacity}
+use Rattle.rig_trait.specs.Kept.{AllLieIn, kept_calls}
 use Rattle.rig_trait.specs.Memory.{Memory, areas_of}
 use Rattle.rig_trait.specs.declared.memory.MemoryRig.TheInside.{Inside}
 
@@ -11,9 +12,10 @@ memory_in rig = record {
   listed = rig.listed.items;
   calls = rig.calls;
   counts = rig.counts;
+  keeping = rig.keeping;
 }
 
--- the memory of the room was taken, and nothing is said past it
-pub record HasRoom (rig : Inside) : Type 0 where
-  pub within : vec_len rig.said ≤ rig.room
-  pub taken : rig.room ≤ vec_capacity rig.said
+-- the memory of the room was taken, and the kept writes lie inside the areas
+pub record IsSound (rig : Inside) : Type 0 where
+  pub room : rig.room ≤ vec_capacity rig.said
+  pub kept : AllLieIn (areas_of rig.areas) (kept_calls rig.keeping)

@@ -3,7 +3,12 @@ pub mod Records
 pub mod Faults
 pub mod Frames
 pub mod Counts
+pub mod Kept
 pub mod Memory
+pub mod Undone
+pub mod Crashed
+pub mod InKept
+pub mod Shows
 pub mod InMemory
 pub mod MemorySource
 pub mod InSource

@@ -1,5 +1,5 @@
 -- What calls that read from a source keep.
-use Rattle.std.specs.Prelude.{◌≡◌, ℕ, Bool, IsTrue}
+use Rattle.std.specs.Prelude.{◌≡◌, Bool, IsTrue}
 use Rattle.rig_trait.specs.Faults.{counted}
 use Rattle.rig_trait.specs.declared.source.Source.{Ghosts}
 

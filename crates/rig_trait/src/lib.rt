@@ -6,16 +6,20 @@
 mod counts;
 mod file_source;
 mod files;
+mod kept;
+mod kept_calls;
 mod memory;
 mod memory_source;
 mod rig;
 mod shown;
 mod source;
 mod std_source;
+mod stored_areas;
 mod two_writes;
 
 pub use file_source::FileSource;
 pub use files::FileRig;
+pub use kept::Kept;
 pub use memory::MemoryRig;
 pub use memory_source::MemorySource;
 pub use rig::{Failed, Rig};
@@ -24,5 +28,7 @@ pub use source::Source;
 pub use std_source::StdSource;
 pub use two_writes::write_two;
 
+#[cfg(test)]
+mod kept_tests;
 #[cfg(test)]
 mod tests;

@@ -9,7 +9,7 @@ use Rattle.byte_ranges.proofs.Patched.{length-patched}
 use Rattle.rig_trait.specs.Memory.{areas_of}
 use Rattle.rig_trait.specs.Areas.{area}
 use Rattle.rig_trait.proofs.StoredAreas.{area-areas_of, absent, areas_of-inserted}
-use Rattle.rig_trait.proofs.memory.put_into.Goals as goal
+use Rattle.rig_trait.proofs.stored_areas.put_into.Goals as goal
 
 pub put-requires : goal.put-requires
 put-requires c =
