@@ -12,7 +12,7 @@ use Rattle.module_labels.specs.declared.kind.AreaKind.{AreaKind}
 use Rattle.module_labels.specs.Labels.{Labels, is_ready}
 use Rattle.region_map.specs.declared.platform.Platform.{Platform}
 use Rattle.region_map.specs.declared.platform.Region.{Region}
-use Rattle.label_table.specs.Belonging.{region_at}
+use Rattle.region_map.specs.Platforms.{region_at}
 use Rattle.label_table.specs.Division.{AreFreeExtents}
 use Rattle.label_table.specs.Namespaces.{namespaces}
 use Rattle.label_table.specs.Statuses.{AreaNotReady, Clash, RegionReady, RegionStatus, Unusable, status}

@@ -8,7 +8,8 @@ use Rattle.module_labels.specs.Labels.{IsBounded, Labels, first, has, number, of
 use Rattle.region_map.specs.declared.platform.Member.{Member}
 use Rattle.region_map.specs.declared.platform.Region.{Region}
 use Rattle.region_map.specs.declared.platform.Platform.{Platform}
-use Rattle.label_table.specs.Belonging.{IsDisjoint, region_at, region_of}
+use Rattle.label_table.specs.Belonging.{IsDisjoint, region_of}
+use Rattle.region_map.specs.Platforms.{region_at}
 use Rattle.label_table.specs.Wholes.{all_ready, any_label, any_read_only, is_doubled, is_whole, labels_with, leading_among, leading_label}
 use Rattle.label_table.specs.Spaces.{Space, is_pending, space, space_if, space_of}
 use Rattle.label_table.specs.Fates.{held_count, is_dead, is_held, is_of_namespace, is_stale, is_unfinished, is_whole_in, kept_count, spare, without_slot}

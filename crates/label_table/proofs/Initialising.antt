@@ -11,7 +11,8 @@ use Rattle.module_labels.proofs.Counting.{count-le}
 use Rattle.region_map.specs.declared.platform.Member.{Member}
 use Rattle.region_map.specs.declared.platform.Region.{Region}
 use Rattle.region_map.specs.declared.platform.Platform.{Platform}
-use Rattle.label_table.specs.Belonging.{IsDisjoint, region_at}
+use Rattle.label_table.specs.Belonging.{IsDisjoint}
+use Rattle.region_map.specs.Platforms.{region_at}
 use Rattle.label_table.specs.Fates.{held_count, is_dead, is_held, kept_count, spare, without_slot}
 use Rattle.label_table.specs.Settling.{IsInitialised, settled, vanishes, with_ready_area}
 use Rattle.label_table.specs.Spaces.{is_pending, space}

@@ -10,7 +10,8 @@ use Rattle.module_labels.specs.Flips.{with_module, without_slots}
 use Rattle.module_labels.specs.Labels.{IsBounded, Labels, Module, has, label_if}
 use Rattle.region_map.specs.declared.platform.Member.{Member}
 use Rattle.region_map.specs.declared.platform.Region.{Region}
-use Rattle.label_table.specs.Belonging.{IsDisjoint, belongs, member_at, region_at}
+use Rattle.label_table.specs.Belonging.{IsDisjoint, belongs, member_at}
+use Rattle.region_map.specs.Platforms.{region_at}
 use Rattle.label_table.specs.Division.{AreFreeExtents, IsOpen, Part}
 use Rattle.label_table.specs.Fates.{is_dead, is_held}
 use Rattle.label_table.specs.Flips.{AddsOne, AllStale, EachLabel, FreesOne, IsConfined, LeavesOutDead, ReplacesOne, other_labels}

@@ -11,7 +11,8 @@ use Rattle.module_labels.proofs.Counting.{count-le}
 use Rattle.region_map.specs.declared.platform.Member.{Member}
 use Rattle.region_map.specs.declared.platform.Region.{Region}
 use Rattle.region_map.specs.declared.platform.Platform.{Platform}
-use Rattle.label_table.specs.Belonging.{IsDisjoint, belongs, region_at, region_of}
+use Rattle.label_table.specs.Belonging.{IsDisjoint, belongs, region_of}
+use Rattle.region_map.specs.Platforms.{region_at}
 use Rattle.label_table.specs.Fates.{held_count, is_dead, is_held, is_of_namespace, is_whole_in, kept_count, spare, without_slot}
 use Rattle.label_table.specs.Flips.{other_labels}
 use Rattle.label_table.specs.Settling.{IsReleased, settled, vanishes, without_held}

@@ -7,11 +7,11 @@ use Rattle.view_types.specs.declared.rule.Rule.{Rule}
 use Rattle.region_map.specs.declared.platform.Member.{Member}
 use Rattle.region_map.specs.declared.platform.Region.{Region}
 use Rattle.region_map.specs.declared.platform.Platform.{Platform}
-use Rattle.region_map.specs.Platforms.{IsSound}
+use Rattle.region_map.specs.Platforms.{IsSound, region_at}
 use Rattle.region_map.specs.Sound.{IsUsable}
 use Rattle.region_map.proofs.Disjoint.{disjoint, unusable_region, usable_region}
 use Rattle.region_map.proofs.Ordered.{ordered}
-use Rattle.label_table.specs.Belonging.{IsDisjoint, member_at, no_member, region_at}
+use Rattle.label_table.specs.Belonging.{IsDisjoint, member_at, no_member}
 use Rattle.label_table.proofs.ListTests.{Contains-cases, Contains-none, eq_other, eq_same, some_is}
 
 -- where indexes ascend, the first region with an index is the only one

@@ -11,7 +11,8 @@ use Rattle.module_labels.proofs.Counting.{IsFirst, count-none, first_below-cases
 use Rattle.region_map.specs.declared.platform.Member.{Member}
 use Rattle.region_map.specs.declared.platform.Region.{Region}
 use Rattle.region_map.specs.declared.platform.Platform.{Platform}
-use Rattle.label_table.specs.Belonging.{belongs, offset_in, region_at, region_of}
+use Rattle.label_table.specs.Belonging.{belongs, offset_in, region_of}
+use Rattle.region_map.specs.Platforms.{region_at}
 use Rattle.label_table.specs.Wholes.{agrees, all_ready, any_label, any_read_only, any_updating, has_one, has_size, is_doubled, is_whole, is_whole_after, label_count, labels_with, leading_among, leading_label}
 use Rattle.label_table.specs.Spaces.{Space, is_pending, space}
 use Rattle.label_table.specs.Fates.{is_dead}

@@ -11,7 +11,8 @@ use Rattle.module_labels.specs.Labels.{Labels}
 use Rattle.region_map.specs.declared.platform.Member.{Member}
 use Rattle.region_map.specs.declared.platform.Region.{Region}
 use Rattle.region_map.specs.declared.platform.Platform.{Platform}
-use Rattle.label_table.specs.Belonging.{IsDisjoint, region_at}
+use Rattle.label_table.specs.Belonging.{IsDisjoint}
+use Rattle.region_map.specs.Platforms.{region_at}
 use Rattle.label_table.specs.Division.{IsOpen, IsOwn, has_address, has_offset, is_common_free, namespaces_over, part_size}
 use Rattle.label_table.specs.Namespaces.{first_clash, insert_space, namespaces, space_cmp, without_uuid}
 use Rattle.label_table.specs.Spaces.{Space, space}

@@ -9,6 +9,7 @@ use Rattle.label_codec.specs.Flags.{is_local}
 use Rattle.region_map.specs.declared.platform.Member.{Member}
 use Rattle.region_map.specs.declared.platform.Region.{Region}
 use Rattle.region_map.specs.declared.platform.Platform.{Platform}
+use Rattle.region_map.specs.Platforms.{region_at}
 
 -- the label's type GUID is that of persistent memory
 abbrev pub is_persistent : Label → Bool
@@ -63,10 +64,6 @@ offset_in region label = label.dpa - (member_at region label.position).dpa_base
 -- the region that a label belongs to
 abbrev pub region_of : Platform → ℕ → Label → Option Region
 region_of platform handle label = find (λ region. belongs region handle label) platform.regions
-
--- the region with an index
-abbrev pub region_at : Platform → ℕ → Option Region
-region_at platform index = find (λ (region : Region). region.index == index) platform.regions
 
 -- What holds of the regions of a table: indexes stand once, a module has one position in a region, and no two regions
 -- share a byte of a module.

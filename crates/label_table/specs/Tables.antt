@@ -9,7 +9,8 @@ use Rattle.module_labels.specs.Labels.{Labels}
 use Rattle.region_map.specs.declared.platform.Member.{Member}
 use Rattle.region_map.specs.declared.platform.Region.{Region}
 use Rattle.region_map.specs.declared.platform.Platform.{Platform}
-use Rattle.label_table.specs.Belonging.{IsDisjoint, region_at}
+use Rattle.label_table.specs.Belonging.{IsDisjoint}
+use Rattle.region_map.specs.Platforms.{region_at}
 use Rattle.label_table.specs.Fates.{held_count, spare}
 use Rattle.label_table.specs.Spaces.{Space, is_pending, space}
 

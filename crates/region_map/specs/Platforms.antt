@@ -1,5 +1,5 @@
 -- The platform of a table: its regions, its modules and its line tables.
-use Rattle.std.specs.Prelude.{◌≡◌, ◌↔◌, ℕ, List, [], Option, Some, None, Contains}
+use Rattle.std.specs.Prelude.{◌≡◌, ◌↔◌, ℕ, ◌==◌, List, [], Option, Some, None, Contains, find}
 use Rattle.std.specs.List.{AllZip, filter_map}
 use Rattle.std.specs.List.Sorted.{IsStrictlyIncreasing}
 use Rattle.view_types.specs.declared.rule.Rule.{Rule}
@@ -57,3 +57,7 @@ pub record IsSound (platform : Platform) : Type 0 where
   pub nfit : Nfit
   pub proper : IsProper nfit
   pub platform_of : IsPlatformOf nfit platform
+
+-- the region with an index
+abbrev pub region_at : Platform → ℕ → Option Region
+region_at platform index = find (λ (region : Region). region.index == index) platform.regions

@@ -1,6 +1,6 @@
 //! The platform of a table.
 
-ghost use Rattle.std.specs.Prelude.{◌≡◌, ◌==◌, find, IfOk};
+ghost use Rattle.std.specs.Prelude.{◌≡◌, IfOk};
 ghost use Rattle.std.specs.Option.{option_copied};
 
 use crate::modules::modules;
@@ -78,7 +78,7 @@ pub struct Platform {
 
 impl Platform {
     ghost use Rattle.nfit_tables.specs.Proper.{IsProper};
-    ghost use Rattle.region_map.specs.Platforms.{IsPlatformOf, IsSound};
+    ghost use Rattle.region_map.specs.Platforms.{IsPlatformOf, IsSound, region_at};
 
     /// The platform of a proper table, as `read_nfit` gives it.
     pub fn of(alloc: Global, nfit: &Nfit) -> Result<Platform, AllocError>
@@ -99,7 +99,7 @@ impl Platform {
 
     /// The region with an index. `None` exactly where there is none.
     pub fn region(&self, index: u16) -> Option<&Region>
-        ensures { option_copied result ≡ find (λ region. region.index == index) self.now.regions }
+        ensures { option_copied result ≡ region_at self.now index }
     {
         self.regions
             .as_slice()

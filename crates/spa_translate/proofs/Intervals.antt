@@ -1,6 +1,6 @@
 -- Whole periods of a region are whole periods of each part.
-use Rattle.std.proofs.Common.{◌≡◌, ◌≢◌, ℕ, ◌+◌, ◌*◌, ◌/◌, ◌%◌, ◌<◌, ◌≤◌, Bool, true, false, List, length, refl, sym, ap, subst, ◌∙◌, arith, inl, inr}
-use Rattle.std.specs.Prelude.{◌&&◌, nat_le, nat_lt, Contains}
+use Rattle.std.proofs.Common.{◌≡◌, ℕ, ◌+◌, ◌*◌, ◌/◌, ◌%◌, ◌<◌, ◌≤◌, length, refl, sym, ap, subst, ◌∙◌, arith, inl, inr}
+use Rattle.std.specs.Prelude.{nat_le, nat_lt}
 use Rattle.std.proofs.Math.Nat.{add-mod, mul-le-mul_left, zero-mod}
 use Rattle.std.proofs.lemmas.Bool.{and_parts, cases_lt, leb-true, le-leb, le-ltb, lt-leb, lt-ltb, ltb-true}
 use Rattle.std.proofs.lemmas.Nat.{div-add-mod', mod_below}
@@ -8,7 +8,7 @@ use Rattle.spa_translate.specs.declared.strand.Strand.{Strand}
 use Rattle.view_types.specs.Intervals.{is_within}
 use Rattle.spa_translate.specs.Woven.{Woven, address_of, offset_of}
 use Rattle.spa_translate.specs.Pairs.{HasIntervals, IsPair, KeepsApart, period_of}
-use Rattle.spa_translate.specs.Laid.{IsLaid, IsStrand}
+use Rattle.spa_translate.specs.Laid.{IsLaid}
 use Rattle.spa_translate.proofs.Numbers.{all_within, byte_split, from_period}
 use Rattle.spa_translate.proofs.Lines.{start}
 use Rattle.spa_translate.proofs.Offsets.{offset_at}

@@ -1,13 +1,12 @@
 -- The bytes of a region's range are those of its members' parts, one for one.
-use Rattle.std.proofs.Common.{◌≡◌, ◌≢◌, ℕ, ◌+◌, ◌-◌, ◌*◌, ◌/◌, ◌%◌, ◌<◌, ◌≤◌, List, [], length, get_or, refl, sym, ap, subst, ◌∙◌, arith, inl, inr}
-use Rattle.std.specs.Prelude.{All, AllPairs, Contains}
+use Rattle.std.proofs.Common.{◌≡◌, ℕ, ◌+◌, ◌-◌, ◌*◌, ◌/◌, ◌%◌, ◌<◌, [], length, get_or, refl, sym, ap, subst, ◌∙◌, arith, inl, inr}
+use Rattle.std.specs.Prelude.{All, Contains}
 use Rattle.std.proofs.lemmas.Bool.{cases_order}
 use Rattle.std.proofs.lemmas.Nat.{div-add-mod', div_below, mod_below, mul-lt, same_from_place}
 use Rattle.std.proofs.lemmas.List.{get_or_default}
-use Rattle.std.proofs.lemmas.List.Elements.{All-contains}
 use Rattle.spa_translate.specs.declared.strand.Strand.{Strand}
 use Rattle.spa_translate.specs.Woven.{Woven, address_of, offset_of}
-use Rattle.spa_translate.specs.Pairs.{IsInRange, IsMapped, IsOneToOne, IsPair}
+use Rattle.spa_translate.specs.Pairs.{IsOneToOne, IsPair}
 use Rattle.spa_translate.specs.Faults.{all_lines, times}
 use Rattle.spa_translate.specs.Laid.{IsLaid, IsStrand}
 use Rattle.spa_translate.proofs.Occurring.{found, once_apart, once_below}

@@ -1,19 +1,19 @@
 -- The bytes of a part that lie in a range, period by period and line by line.
-use Rattle.std.proofs.Common.{◌≡◌, ℕ, zero, suc, ◌+◌, ◌-◌, ◌*◌, ◌/◌, ◌%◌, ◌<◌, ◌≤◌, Bool, true, false, cond, List, [], ◌∷◌, ◌++◌, length, get_or, max, min, refl, sym, ap, subst, ◌∙◌, arith, inl, inr}
-use Rattle.std.specs.Prelude.{◌&&◌, ◌||◌, ◌⊎◌, nat_le, nat_lt}
+use Rattle.std.proofs.Common.{◌≡◌, ℕ, ◌+◌, ◌-◌, ◌*◌, ◌/◌, ◌%◌, ◌<◌, ◌≤◌, Bool, true, false, List, [], length, get_or, max, min, refl, sym, ap, ◌∙◌, arith, inl, inr}
+use Rattle.std.specs.Prelude.{◌||◌, ◌⊎◌}
 use Rattle.std.proofs.lemmas.Bool.{cases_lt, le-ltb, lt-ltb}
-use Rattle.std.proofs.lemmas.Nat.{div-add-mod', mod_below}
-use Rattle.std.proofs.Math.Nat.{mul-le-mul_left, mul-mod_left}
+use Rattle.std.proofs.lemmas.Nat.{div-add-mod'}
+use Rattle.std.proofs.Math.Nat.{mul-mod_left}
 use Rattle.spa_translate.specs.declared.strand.Strand.{Strand}
 use Rattle.view_types.specs.declared.extents.Extent.{Extent}
-use Rattle.view_types.specs.Intervals.{Ascend, end_of, is_free, is_within}
+use Rattle.view_types.specs.Intervals.{is_within}
 use Rattle.spa_translate.specs.Woven.{Woven, address_of, offset_of}
-use Rattle.spa_translate.specs.Laid.{IsLaid, IsStrand}
+use Rattle.spa_translate.specs.Laid.{IsLaid}
 use Rattle.spa_translate.specs.Runs.{AreUpTo, IsPutAt, is_reached}
 use Rattle.spa_translate.proofs.Lines.{start}
 use Rattle.spa_translate.proofs.Offsets.{byte_at}
 use Rattle.spa_translate.proofs.OneToOne.{IsAt, laid_at}
-use Rattle.spa_translate.proofs.Intervals.{IsEdge, edge}
+use Rattle.spa_translate.proofs.Intervals.{edge}
 use Rattle.spa_translate.proofs.Putting.{before, behind, inside, longer, or_none}
 
 -- no bytes

@@ -1,5 +1,5 @@
 -- The periods that a range meets.
-use Rattle.std.proofs.Common.{◌≡◌, ℕ, zero, suc, ◌+◌, ◌-◌, ◌*◌, ◌/◌, ◌%◌, ◌<◌, ◌≤◌, List, [], ◌∷◌, length, get_or, refl, sym, ap, subst, ◌∙◌, arith, inl, inr}
+use Rattle.std.proofs.Common.{◌≡◌, ℕ, ◌+◌, ◌-◌, ◌*◌, ◌/◌, ◌<◌, ◌≤◌, List, [], ◌∷◌, length, get_or, refl, sym, ap, subst, arith, inl, inr}
 use Rattle.std.specs.Prelude.{All}
 use Rattle.std.proofs.Math.Nat.{mul-le-mul_right}
 use Rattle.std.proofs.lemmas.Bool.{cases_lt}
@@ -10,7 +10,7 @@ use Rattle.view_types.specs.declared.extents.Extent.{Extent}
 use Rattle.view_types.specs.Intervals.{Ascend, end_of}
 use Rattle.spa_translate.specs.Woven.{Woven}
 use Rattle.spa_translate.specs.Pairs.{period_of}
-use Rattle.spa_translate.specs.Laid.{IsLaid, IsStrand}
+use Rattle.spa_translate.specs.Laid.{IsLaid}
 use Rattle.spa_translate.proofs.Lines.{start}
 use Rattle.spa_translate.proofs.OneToOne.{IsAt, laid_at, line_below, whole, whole_range}
 

@@ -1,5 +1,5 @@
 -- Which addresses of a region belong to which addresses of its modules.
-use Rattle.std.specs.Prelude.{◌≡◌, ◌≢◌, ℕ, ◌+◌, ◌-◌, ◌*◌, ◌%◌, ◌≤◌, ◌<◌, ◌==◌, Bool, true, Option, Some, None, Contains, length, slice_index_or}
+use Rattle.std.specs.Prelude.{◌≡◌, ◌≢◌, ℕ, ◌+◌, ◌-◌, ◌*◌, ◌%◌, ◌≤◌, ◌<◌, ◌==◌, Bool, true, Option, Some, None, Contains, length, slice_index_or, ◌&&◌, nat_le, nat_lt}
 use Rattle.std.specs.List.{list_any}
 use Rattle.view_types.specs.Intervals.{is_within}
 use Rattle.spa_translate.specs.declared.strand.Strand.{Strand}
@@ -19,6 +19,10 @@ pub record IsPair (woven : Woven) (spa dimm dpa : ℕ) : Type 0 where
 pub record IsInRange (woven : Woven) (spa : ℕ) : Type 0 where
   pub from : woven.spa ≤ spa
   pub below : spa < woven.spa + woven.len
+
+-- addresses of the range: some, from one on
+abbrev pub has_range : Woven → ℕ → ℕ → Bool
+has_range woven spa len = nat_lt 0 len && (nat_le woven.spa spa && nat_le (spa + len) (woven.spa + woven.len))
 
 -- a module address of a member's part
 pub record IsMapped (woven : Woven) (dimm dpa : ℕ) : Type 0 where

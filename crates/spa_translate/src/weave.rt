@@ -43,7 +43,7 @@ impl Model for Weave {
 }
 
 impl Weave {
-    ghost use Rattle.spa_translate.specs.Pairs.{AddressIn, IsInRange, IsMapped, IsPair, is_member};
+    ghost use Rattle.spa_translate.specs.Pairs.{AddressIn, IsInRange, IsMapped, IsPair, has_range, is_member};
 
     /// The weave of a region that can be used, or the first fault for which its addresses cannot be translated.
     pub fn check(alloc: Global, platform: &Platform, region: &Region) -> Result<Weave, CheckFault>
@@ -178,6 +178,16 @@ impl Weave {
             offset % line_size,
         );
         (strand.handle, strand.base + d)
+    }
+
+    /// A range of so many addresses, from one on, is not empty and lies in the region's range.
+    pub fn has_range(&self, spa: u64, length: u64) -> bool
+        ensures { result ≡ has_range self.now spa length }
+    {
+        match spa.checked_add(length) {
+            Some(end) => length > 0 && spa >= self.spa && end - self.spa <= self.size,
+            None => false,
+        }
     }
 
     /// The address of the region (SPA) of a module's address (DPA). `None` exactly where the module is no member or the

@@ -1,6 +1,4 @@
-use Rattle.std.proofs.Common.{◌≡◌, ℕ, ◌+◌, ◌-◌, ◌*◌, ◌<◌, ◌≤◌, ◌∙◌, List, [], ◌∷◌, ◌++◌, max, min, refl, sym, ap, subst, arith}
-use Rattle.spa_translate.specs.declared.strand.Strand.{Strand}
-use Rattle.spa_translate.specs.Woven.{Woven}
+use Rattle.std.proofs.Common.{◌+◌, ◌-◌, ◌<◌, max, min, arith}
 use Rattle.spa_translate.specs.Runs.{AreUpTo, IsPutAt}
 use Rattle.spa_translate.proofs.Reaching.{cut_none, cut_to}
 use Rattle.spa_translate.proofs.Running.{ok_then}

@@ -1,4 +1,4 @@
-use Rattle.std.proofs.Common.{◌≡◌, ℕ, ◌+◌, ◌-◌, ◌*◌, ◌<◌, ◌≤◌, ◌∙◌, List, [], ◌∷◌, ◌++◌, max, min, refl, sym, ap, subst, arith}
+use Rattle.std.proofs.Common.{ℕ, ◌+◌, ◌*◌, subst, arith}
 use Rattle.std.specs.Prelude.{OnOk}
 use Rattle.spa_translate.specs.Runs.{IsPutAt}
 use Rattle.spa_translate.proofs.Spans.{periods_between}

@@ -1,14 +1,3 @@
-use Rattle.std.proofs.Common.{◌≡◌, ℕ, ◌+◌, ◌-◌, ◌*◌, ◌/◌, ◌^◌, ◌<◌, ◌≤◌, ◌∙◌, List, [], ◌∷◌, ◌++◌, length, get_or, map, take, refl, sym, ap, subst, arith}
-use Rattle.std.specs.Prelude.{All, Contains, OnOk}
-use Rattle.view_types.specs.declared.extents.Extent.{Extent}
-use Rattle.view_types.specs.declared.translation.Run.{Run}
-use Rattle.spa_translate.specs.declared.strand.Strand.{Strand}
-use Rattle.spa_translate.specs.Woven.{Woven, address_of}
-use Rattle.spa_translate.specs.Kept.{woven_in}
-use Rattle.spa_translate.specs.Laid.{IsLaid, size_each}
-use Rattle.spa_translate.specs.Pairs.{period_of}
-use Rattle.spa_translate.specs.Runs.{AreRunsOf, AreUpTo, IsPutAt}
-use Rattle.spa_translate.proofs.OneToOne.{IsAt, at_from, laid_at}
 use Rattle.spa_translate.proofs.Running.{runs_more, starts_fit}
 use Rattle.spa_translate.proofs.weave.Weave.module_runs.Goals as goal
 
