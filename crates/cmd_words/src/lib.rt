@@ -9,6 +9,7 @@ mod pieces;
 
 pub use commands::Command;
 pub use lines::read_line;
+pub use numbers::read_number;
 
 #[cfg(test)]
 mod tests;

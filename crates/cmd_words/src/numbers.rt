@@ -5,7 +5,7 @@ ghost use Rattle.cmd_words.specs.Numbers.{below, number, numeral, size, unit_of}
 
 /// A number: 1 to 20 decimal digits, or `0x` and 1 to 16 hexadecimal ones of either case. `None` exactly where the
 /// text is none, or 2^64 or more.
-pub(crate) fn read_number(text: &str) -> Option<u64>
+pub fn read_number(text: &str) -> Option<u64>
     ensures { result ≡ below (2 ^ 64) (number text.now) }
 {
     match text.strip_prefix("0x") {

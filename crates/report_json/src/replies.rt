@@ -1,6 +1,6 @@
 //! The texts of replies.
 
-ghost use Rattle.std.specs.Prelude.{◌≡◌, ◌≤◌, ◌++◌, true, codes, drop, length, IfOk};
+ghost use Rattle.std.specs.Prelude.{◌≡◌, ◌≤◌, ◌++◌, true, codes, drop, length, IfOk, Some, None, if◌then◌else◌};
 ghost use Rattle.std.specs.Fmt.{decimal};
 ghost use Rattle.std.specs.List.{flat_map};
 ghost use Rattle.report_json.specs.Texts.{free_end, held_end, initialised_line, module_line, spa_line};
@@ -146,4 +146,21 @@ fn held_end(count: usize, spare: u32) -> ShortText
     text.push_decimal(" spare=", u64::from(spare));
     text.push_str("\n");
     text
+}
+
+/// The line of a reply that is no list, and `None` exactly where it is one. It takes no memory.
+pub fn line_of(reply: &Reply) -> Option<ShortText>
+    ensures { result ≡ (if is_one_line reply.now then Some (reply_text reply.now) else None) }
+{
+    match reply {
+        Reply::Initialised { dimm, slots } => Some(initialised_line(*dimm, *slots)),
+        Reply::Module { dimm, dpa } => Some(module_line(*dimm, *dpa)),
+        Reply::Spa { spa } => Some(spa_line(*spa)),
+        Reply::Refused(refusal) => Some(refusal_line(*refusal)),
+        Reply::Namespaces(_)
+        | Reply::Regions(_)
+        | Reply::Free { .. }
+        | Reply::HeldList { .. }
+        | Reply::Runs(_) => None,
+    }
 }

@@ -1,0 +1,47 @@
+use Rattle.std.proofs.Common.{◌≡◌, ◌≤◌, ℕ, ◌<◌, ◌++◌, List, Option, Some, None, string_bytes, length, get_or, sym, ap, subst, ◌∙◌, arith}
+use Rattle.std.specs.FinMap.{get}
+use Rattle.std.specs.List.{filter_map, flat_map, range_with_len}
+use Rattle.std.proofs.lemmas.List.{take_all}
+use Rattle.label_codec.specs.declared.label.Label.{Label}
+use Rattle.label_area.specs.LoadedAreas.{LoadedArea, labels_by_slot}
+use Rattle.label_listing.specs.Listing.{label_line, last_line}
+use Rattle.label_listing.proofs.LabelLines.{count-none, count-some, filter_map-map, lines-none, lines-some, live_front}
+use Rattle.label_listing.proofs.lines.listing.Goals as goal
+use Rattle.label_listing.proofs.lines.listing.Goals.{in-Some+in_ok-push_label, in_default}
+
+-- all slots were walked
+walked : (area : LoadedArea) (n : ℕ) → length (labels_by_slot area) ≤ n → live_front (labels_by_slot area) n ≡ filter_map (get area.live) (range_with_len 0 area.geometry.slots)
+walked area n past = ap (filter_map (λ label. label)) (take_all n (labels_by_slot area) past) ∙ filter_map-map (get area.live) (range_with_len 0 area.geometry.slots)
+
+pub loop-slot-preserved : goal.loop-slot-preserved
+loop-slot-preserved c =
+    let labels = labels_by_slot c.args.area.now in
+    let n = c.loop-slot.slot-index in
+    let items = c.labels-slot-items.ensures in
+    let below : n < length labels = subst (λ (ls : List (Option Label)). n < length ls) items c.loop-slot-test.true in
+    elim c.match-slot.branch [
+      | in-Some+in_ok-push_label w ↦
+          let some : get_or labels n None ≡ Some w.in-Some.label = ap (λ (ls : List (Option Label)). get_or ls n None) (sym items) ∙ w.in-Some.is in
+          record {
+            text_is = ap string_bytes w.text-is ∙ lines-some labels n below w.in-Some.label (string_bytes c.loop-slot.text) (string_bytes w.push_label.new.text) some c.loop-slot.invariant.text_is w.in_ok-push_label.ensures;
+            count_is = omega (arith, w.count-is, c.loop-slot.invariant.count_is, count-some labels n below w.in-Some.label some);
+            bound = omega (arith, w.count-is, c.loop-slot.invariant.bound);
+          }
+      | in_default w ↦
+          let none : get_or labels n None ≡ None = ap (λ (ls : List (Option Label)). get_or ls n None) (sym items) ∙ w.in_default.is in
+          record {
+            text_is = ap string_bytes w.text-is ∙ c.loop-slot.invariant.text_is ∙ sym (lines-none labels n below none);
+            count_is = omega (arith, w.count-is, c.loop-slot.invariant.count_is, count-none labels n below none);
+            bound = omega (arith, w.count-is, c.loop-slot.invariant.bound);
+          }
+    ]
+
+pub returns : goal.returns
+returns c =
+    let area = c.args.area.now in
+    let n = c.loop-slot.slot-index in
+    let past : length (labels_by_slot area) ≤ n = subst (λ (ls : List (Option Label)). length ls ≤ n) c.labels-slot-items.ensures c.loop-slot-test.false in
+    let all = walked area n past in
+    let text : string_bytes c.loop-slot.text ≡ flat_map label_line (filter_map (get area.live) (range_with_len 0 area.geometry.slots)) = c.loop-slot.invariant.text_is ∙ ap (flat_map label_line) all in
+    let count : c.loop-slot.count ≡ length (filter_map (get area.live) (range_with_len 0 area.geometry.slots)) = c.loop-slot.invariant.count_is ∙ ap length all in
+    c.in_ok-push_last.ensures ∙ (λ i. text i ++ last_line (count i) (record { geometry = area.geometry; place = area.place; seq = area.seq }))

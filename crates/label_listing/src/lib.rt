@@ -1,0 +1,6 @@
+//! The listing of the labels of a module.
+#![tactic(auto)]
+
+mod lines;
+
+pub use lines::listing;

@@ -1,0 +1,40 @@
+use super::*;
+use nfit_tables::read_nfit;
+use region_map::Platform;
+use std::alloc::Global;
+use std::test::Fail;
+use test_areas::{nfit, two_modules};
+use view_types::{Refusal, Reply};
+
+/// The platform of two modules with lines of 4,096 bytes.
+fn platform(alloc: Global) -> Result<Platform, &'static str> {
+    let structures = two_modules(alloc).ok().ok_or("no memory")?;
+    let bytes = nfit(alloc, &structures).ok().ok_or("no memory")?;
+    let table = read_nfit(alloc, &bytes).ok().ok_or("no table")?;
+    Platform::of(alloc, &table).ok().ok_or("no memory")
+}
+
+#[test]
+fn translations(rt: HostRuntime) -> Result<(), Fail> {
+    let alloc = rt.alloc();
+    let platform = platform(alloc)?;
+    let found = matches!(
+        to_module(alloc, &platform, 1, 0x1_0000_3005)?,
+        Reply::Module {
+            dimm: 0x101,
+            dpa: 0x1005
+        }
+    );
+    assert!(rt; found);
+    let back = matches!(
+        to_spa(alloc, &platform, 1, 0x101, 0x1005)?,
+        Reply::Spa { spa: 0x1_0000_3005 }
+    );
+    assert!(rt; back);
+    let unknown = matches!(
+        to_module(alloc, &platform, 2, 0)?,
+        Reply::Refused(Refusal::UnknownRegion { region: 2 })
+    );
+    assert!(rt; unknown);
+    Ok(())
+}
