@@ -1,7 +1,3 @@
-pub mod Pieces
-pub mod Hexadecimal
-pub mod Appended
-pub mod LabelLines
 pub mod Unsaid
 pub mod Requests
 pub mod Answered
@@ -9,3 +5,4 @@ pub mod Refused
 pub mod Endings
 pub mod Saying
 pub mod Ends
+pub mod Handles

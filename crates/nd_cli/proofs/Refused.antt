@@ -20,14 +20,11 @@ use Rattle.label_area.specs.LoadedAreas.{LoadedArea}
 use Rattle.label_area.specs.Loads.{Loads}
 use Rattle.label_area.specs.Modules.{area_kind}
 use Rattle.label_area.proofs.Shown.{ready_is}
-use Rattle.nd_cli.specs.declared.lines.Command.TheVariants.{InitLabels}
-use Rattle.nd_cli.specs.declared.replies.Refusal.TheVariants.{NotReady}
-use Rattle.nd_cli.specs.Answers.{init_answer_at, labels_answer, line_answer, listing_answer, refused}
-use Rattle.nd_cli.specs.Lines.{command_in}
+use Rattle.report_json.specs.Refusals.{refusal_line}
+use Rattle.report_json.specs.Texts.{initialised_line}
+use Rattle.nd_cli.specs.declared.tasks.Task.TheVariants.{Labels, Initialise}
+use Rattle.nd_cli.specs.Answers.{init_answer_at, labels_answer, listing_answer, not_ready, refused}
 use Rattle.nd_cli.specs.Outcomes.{Does, Replies}
-use Rattle.nd_cli.specs.Stops.{WritesOnly, module_in}
-use Rattle.nd_cli.specs.Texts.{initialised_line, refusal_text}
-use Rattle.nd_cli.specs.Words.{LabelsOf, Line}
 use Rattle.nd_cli.proofs.Unsaid.{WritesOnly-init, WritesOnly-same}
 
 -- an area that is not Ready has no current block
@@ -44,13 +41,13 @@ current_block-none (Some bytes) other = by_layout (geometry_of (length bytes) 25
     by_layout (Some g) found = by_current g found (current_in g bytes) refl
 
 -- a fault that tells the kind of an area tells another than Ready, and the rig did not fail
-not_ready : (fault : AreaFault) (kind : AreaKind) → Some kind ≡ load_kind fault → kind ≢ Ready
-not_ready load.Missing kind is ready = cc
-not_ready (load.WrongSize size) kind is ready = cc
-not_ready (load.Uninit size) kind is ready = cc
-not_ready (load.Foreign size) kind is ready = cc
-not_ready load.Failed kind is ready = cc
-not_ready load.Memory kind is ready = cc
+is_other : (fault : AreaFault) (kind : AreaKind) → Some kind ≡ load_kind fault → kind ≢ Ready
+is_other load.Missing kind is ready = cc
+is_other (load.WrongSize size) kind is ready = cc
+is_other (load.Uninit size) kind is ready = cc
+is_other (load.Foreign size) kind is ready = cc
+is_other load.Failed kind is ready = cc
+is_other load.Memory kind is ready = cc
 
 not_failed : (T : Type 0) (fault : AreaFault) (kind : AreaKind) → Some kind ≡ load_kind fault → is_load_failed {T = T} (Err fault) ≡ false
 not_failed T load.Missing kind is = refl
@@ -62,35 +59,34 @@ not_failed T load.Memory kind is = refl
 
 module _ (dimm : ℕ) (areas : Areas) (kind : AreaKind) (is : area_kind (get areas dimm) ≡ kind) (other : kind ≢ Ready) where
   -- it is refused with its kind
-  labels_answer-refused : labels_answer dimm areas ≡ refused (NotReady dimm kind) areas
+  labels_answer-refused : labels_answer dimm areas ≡ refused (not_ready dimm kind) areas
   labels_answer-refused =
       ap (listing_answer dimm areas) (current_block-none (get areas dimm) (λ ready. other (sym is ∙ ready)))
-      ∙ ap (λ k. refused (NotReady dimm k) areas) is
+      ∙ ap (λ k. refused (not_ready dimm k) areas) is
 
 module _ {R : Type 0} (m : Ghosts R) (dimm : ℕ) (old new : R) where
   pub labels_refused : (fault : AreaFault) (kind : AreaKind) → Some kind ≡ load_kind fault → (IsTold m old → Loads dimm (m.areas old) (Err fault))
-      → FailsAt dimm m old new (is_load_failed {T = LoadedArea} (Err fault)) → Reads m old new → Does m (LabelsOf dimm) old new (Replies false (refusal_text (NotReady dimm kind)))
+      → FailsAt dimm m old new (is_load_failed {T = LoadedArea} (Err fault)) → Reads m old new → Does m (Labels dimm) old new (Replies false (refusal_line (not_ready dimm kind)))
   labels_refused fault kind is loaded fails read = record {
     done = tt;
     faults = record { faults = rw (not_failed LoadedArea fault kind is) at fails.faults; names = λ other named. cc };
     answered = λ told.
         let kind_is : area_kind (get (m.areas old) dimm) ≡ kind = subst (λ found. IfSome found (λ k. area_kind (get (m.areas old) dimm) ≡ k)) (sym is) (loaded told).kind_is in
-        labels_answer-refused dimm (m.areas old) kind kind_is (not_ready fault kind is) ∙ ap (refused (NotReady dimm kind)) (sym read.areas);
+        labels_answer-refused dimm (m.areas old) kind kind_is (is_other fault kind is) ∙ ap (refused (not_ready dimm kind)) (sym read.areas);
     written = λ told. WritesOnly-same None (m.areas old) (m.areas new) read.areas;
   }
 
-  pub init_accepted : (slots : ℕ) (line : List ℕ) → command_in line ≡ Ok (Some (InitLabels dimm)) → FailsAt dimm m old new false
+  pub init_accepted : (slots : ℕ) → FailsAt dimm m old new false
       → (IsTold m old → (area_kind (get (m.areas old) dimm) ≡ Uninit) × (slots ≡ slots_of (get (m.areas old) dimm)))
       → (IsTold m old → m.areas new ≡ initialised dimm (m.areas old)) → WritesTo dimm m old new
-      → (IsTold m old → area_kind (get (m.areas old) dimm) ≢ Uninit → m.areas new ≡ m.areas old) → Does m (Line line) old new (Replies true (initialised_line dimm slots))
-  init_accepted slots line is fails answer written writes kept = record {
-    done = rw is tt;
+      → (IsTold m old → area_kind (get (m.areas old) dimm) ≢ Uninit → m.areas new ≡ m.areas old) → Does m (Initialise dimm) old new (Replies true (initialised_line dimm slots))
+  init_accepted slots fails answer written writes kept = record {
+    done = tt;
     faults = record { faults = fails.faults; names = λ other named. cc };
     answered = λ told.
         let areas = m.areas old in
-        ap (λ command. line_answer command areas) is
-        ∙ ap (λ kind. init_answer_at kind dimm areas) (answer told).0
+        ap (λ kind. init_answer_at kind dimm areas) (answer told).0
         ∙ ap (λ (n : ℕ). record { accepted = true; text = initialised_line dimm n; areas = initialised dimm areas }) (sym (answer told).1)
         ∙ ap (λ (now : Areas). record { accepted = true; text = initialised_line dimm slots; areas = now }) (sym (written told));
-    written = λ told. subst (λ named. WritesOnly named (m.areas old) (m.areas new)) (sym (ap module_in is)) (WritesOnly-init dimm (m.areas old) (m.areas new) (writes.others told) (kept told));
+    written = λ told. WritesOnly-init dimm (m.areas old) (m.areas new) (writes.others told) (kept told);
   }

@@ -1,57 +1,92 @@
--- What a run comes to: by a request alone, and behind the reading of the NFIT.
-use Rattle.std.proofs.Common.{◌≡◌, ◌≤◌, ◌<◌, ℕ, false, List, Option, Some, None, Err, refl, length}
+-- What a run comes to: by a task alone, and behind the reading of the platform.
+use Rattle.std.proofs.Common.{◌≡◌, ◌≤◌, ◌<◌, ℕ, false, List, Option, Some, None, Result, Ok, Err, ap, subst, refl, inl, length, arith}
 use Rattle.std.specs.Prelude.{IsSome}
+use Rattle.std.specs.Result.{IsErrAnd}
 use Rattle.rig_trait.specs.declared.shown.Shown as rigs
 use Rattle.rig_trait.specs.declared.source.Source as sources
+use Rattle.rig_trait.specs.Frames.{GoesOn, Reads, SaysNothing}
 use Rattle.rig_trait.specs.Sources.{Draws, TellsLeft}
+use Rattle.nfit_tables.specs.Limits.{most_bytes}
 use Rattle.nfit_tables.specs.Reading.{table_of}
+use Rattle.nd_cli.specs.declared.answers.Answer.{Answer}
 use Rattle.nd_cli.specs.declared.faults.Fault.{Fault}
 use Rattle.nd_cli.specs.declared.faults.Fault.TheVariants.{Words, Nfit, Area, Source, Limit, Memory}
-use Rattle.nfit_tables.specs.Limits.{most_bytes}
-use Rattle.nd_cli.specs.Outcomes.{ComesTo, Does, FaultsAre, IsCause, IsDone, Outcome, Replies, Fails, ReadsNfit, is_area_fault, is_source_fault}
-use Rattle.nd_cli.specs.Stops.{named_by}
-use Rattle.nd_cli.specs.Tables.{IsTableFault, is_of_source}
+use Rattle.nd_cli.specs.declared.tasks.Task.{Task}
+use Rattle.nd_cli.specs.declared.tasks.Task.TheVariants.{Labels, Reply}
+use Rattle.nd_cli.specs.Outcomes.{ComesUnsaid, Does, FaultsAre, IsCause, IsDone, IsTaskOf, LeavesUnsaid, Outcome, Replies, Fails, is_area_fault, is_source_fault}
+use Rattle.nd_cli.specs.Stops.{named}
+use Rattle.nd_cli.specs.Tables.{IsTableFault, ReadsPlatform, is_of_source}
 use Rattle.nd_cli.specs.Words.{Asked, LabelsOf, Line}
-use Rattle.nd_cli.proofs.Unsaid.{WritesOnly-same}
+use Rattle.nd_cli.proofs.Unsaid.{LeavesUnsaid-reads, WritesOnly-same}
 
 -- nothing was asked of the source
-unread : {N : Type 0} (n : sources.Ghosts N) (source : N) → Draws n source source false
+pub unread : {N : Type 0} (n : sources.Ghosts N) (source : N) → Draws n source source false
 unread n source = record { tells = refl; faults = refl }
 
 -- nothing was asked of the rig
 unasked : {R : Type 0} (m : rigs.Ghosts R) (rig : R) (outcome : Outcome) → is_area_fault outcome ≡ false → ((dimm : ℕ) → ¬ (outcome ≡ Fails (Area dimm))) → FaultsAre m rig rig outcome
 unasked m rig outcome none other = record { faults = rw none refl; names = λ dimm is. absurd (other dimm is) }
 
--- the faults of a request that is done are none of the source
-done_source : (asked : Asked) (outcome : Outcome) → IsDone asked outcome → is_source_fault outcome ≡ false
-done_source asked (Replies accepted text) done = refl
-done_source asked (Fails Words) done = absurd done
-done_source asked (Fails (Nfit fault)) done = absurd done
-done_source asked (Fails (Area dimm)) done = refl
-done_source asked (Fails Source) done = absurd done
-done_source asked (Fails Limit) done = absurd done
-done_source asked (Fails Memory) done = refl
+-- nor was anything asked of it before the text
+module _ {R : Type 0} (m : rigs.Ghosts R) (rig : R) where
+  goes_on : GoesOn m rig rig
+  goes_on = record {
+    tells = refl;
+    tells_records = λ told. told;
+    sizes = λ told q. refl;
+    faults = omega arith;
+    say_faults = omega arith;
+    reads = omega arith;
+  }
 
-done_cause : {N : Type 0} (n : sources.Ghosts N) (asked : Asked) (source : N) (outcome : Outcome) → IsDone asked outcome → ReadsNfit n source (Some asked) → IsCause n source (Some asked) outcome
-done_cause n asked source (Replies accepted text) done read = (done, read)
-done_cause n asked source (Fails Words) done read = absurd done
-done_cause n asked source (Fails (Nfit fault)) done read = absurd done
-done_cause n asked source (Fails (Area dimm)) done read = (done, read)
-done_cause n asked source (Fails Source) done read = absurd done
-done_cause n asked source (Fails Limit) done read = absurd done
-done_cause n asked source (Fails Memory) done read = tt
+  pub no_call : Reads m rig rig
+  no_call = record {
+    areas = refl;
+    said = refl;
+    say_faults = refl;
+    time = record {
+      later = omega arith;
+      nothing_else = λ t c past left. inl left;
+      keeps = λ t c past left. left;
+      left_is = λ c left. left;
+      joins = λ t c past left. inl left;
+    };
+    goes_on = goes_on;
+  }
+
+  nothing_said : SaysNothing m rig rig
+  nothing_said = record { said = refl; say_faults = refl; goes_on = goes_on }
+
+-- the faults of a task that is done are none of the source
+done_source : (task : Task) (outcome : Outcome) → IsDone task outcome → is_source_fault outcome ≡ false
+done_source task (Replies accepted text) done = refl
+done_source task (Fails Words) done = absurd done
+done_source task (Fails (Nfit fault)) done = absurd done
+done_source task (Fails (Area dimm)) done = refl
+done_source task (Fails Source) done = absurd done
+done_source task (Fails Limit) done = absurd done
+done_source task (Fails Memory) done = refl
+
+done_cause : {N : Type 0} (n : sources.Ghosts N) (asked : Asked) (task : Task) (source : N) (outcome : Outcome) → IsTaskOf n source asked task → IsDone task outcome → IsCause n source (Some asked) task outcome
+done_cause n asked task source (Replies accepted text) is done = (is, done)
+done_cause n asked task source (Fails Words) is done = absurd done
+done_cause n asked task source (Fails (Nfit fault)) is done = absurd done
+done_cause n asked task source (Fails (Area dimm)) is done = (is, done)
+done_cause n asked task source (Fails Source) is done = absurd done
+done_cause n asked task source (Fails Limit) is done = absurd done
+done_cause n asked task source (Fails Memory) is done = tt
 
 -- why a line is not done
 table_cause : {N : Type 0} (n : sources.Ghosts N) (bytes : List ℕ) (source : N) (fault : Fault) → IsTableFault fault
     → ((found : _) → fault ≡ Nfit found → TellsLeft n source → (length (n.left source) ≤ most_bytes) × (table_of (n.left source) ≡ Err found))
     → (fault ≡ Limit → TellsLeft n source → most_bytes < length (n.left source))
-    → IsCause n source (Some (Line bytes)) (Fails fault)
-table_cause n bytes source Words is bad long = absurd is
-table_cause n bytes source (Nfit found) is bad long = (tt, bad found refl)
-table_cause n bytes source (Area dimm) is bad long = absurd is
-table_cause n bytes source Source is bad long = tt
-table_cause n bytes source Limit is bad long = (tt, long refl)
-table_cause n bytes source Memory is bad long = tt
+    → (task : Task) → IsCause n source (Some (Line bytes)) task (Fails fault)
+table_cause n bytes source Words is bad long task = absurd is
+table_cause n bytes source (Nfit found) is bad long task = (tt, bad found refl)
+table_cause n bytes source (Area dimm) is bad long task = absurd is
+table_cause n bytes source Source is bad long task = tt
+table_cause n bytes source Limit is bad long task = (tt, long refl)
+table_cause n bytes source Memory is bad long task = tt
 
 table_area : (fault : Fault) → IsTableFault fault → is_area_fault (Fails fault) ≡ false
 table_area Words is = absurd is
@@ -70,50 +105,68 @@ not_area Limit dimm is same = cc
 not_area Memory dimm is same = cc
 
 module _ {R N : Type 0} (m : rigs.Ghosts R) (n : sources.Ghosts N) where
-  pub comes_done : (asked : Asked) (old new : R) (source_old source_new : N) (outcome : Outcome) → ReadsNfit n source_old (Some asked) → Draws n source_old source_new false
-      → Does m asked old new outcome → ComesTo m n (Some asked) old new source_old source_new outcome
-  comes_done asked old new source_old source_new outcome read draws does = record {
-    cause = done_cause n asked source_old outcome does.done read;
-    faults = does.faults;
-    source = rw (done_source asked outcome does.done) draws;
-    answered = does.answered;
-    written = does.written;
+  pub comes_done : (asked : Asked) (task : Task) (old new : R) (source_old source_new : N) (outcome : Outcome) → IsTaskOf n source_old asked task → Draws n source_old source_new false
+      → Does m task old new outcome → SaysNothing m old new → LeavesUnsaid m (named task) old new → ComesUnsaid m n (Some asked) old new source_old source_new outcome
+  comes_done asked task old new source_old source_new outcome is draws does nothing left = record {
+    came = record {
+      task = task;
+      cause = done_cause n asked task source_old outcome is does.done;
+      faults = does.faults;
+      source = rw (done_source task outcome does.done) draws;
+      answered = does.answered;
+      written = does.written;
+    };
+    nothing = nothing;
+    any_moment = left;
   }
 
   -- the labels of a module need no NFIT
-  pub comes_labels : (dimm : ℕ) (old new : R) (source : N) (outcome : Outcome) → Does m (LabelsOf dimm) old new outcome → ComesTo m n (Some (LabelsOf dimm)) old new source source outcome
-  comes_labels dimm old new source outcome does = comes_done (LabelsOf dimm) old new source source outcome (λ needed. absurd needed) (unread n source) does
+  pub comes_labels : (dimm : ℕ) (old new : R) (source : N) (outcome : Outcome) → Does m (Labels dimm) old new outcome → SaysNothing m old new → LeavesUnsaid m None old new
+      → ComesUnsaid m n (Some (LabelsOf dimm)) old new source source outcome
+  comes_labels dimm old new source outcome does nothing left = comes_done (LabelsOf dimm) (Labels dimm) old new source source outcome refl (unread n source) does nothing left
+
+  -- a fault that ends a run before the rig is asked for anything
+  comes_early : (asked : Option Asked) (rig : R) (source_old source_new : N) (fault : Fault) → IsCause n source_old asked (Reply None) (Fails fault) → is_area_fault (Fails fault) ≡ false
+      → ((dimm : ℕ) → ¬ (Fails fault ≡ Fails (Area dimm))) → Draws n source_old source_new (is_of_source fault) → ComesUnsaid m n asked rig rig source_old source_new (Fails fault)
+  comes_early asked rig source_old source_new fault cause none other draws = record {
+    came = record {
+      task = Reply None;
+      cause = cause;
+      faults = unasked m rig (Fails fault) none other;
+      source = draws;
+      answered = λ told. tt;
+      written = λ told. WritesOnly-same None (m.areas rig) (m.areas rig) refl;
+    };
+    nothing = nothing_said m rig;
+    any_moment = LeavesUnsaid-reads None (no_call m rig);
+  }
 
   pub comes_table : (bytes : List ℕ) (rig : R) (source_old source_new : N) (fault : Fault) → IsTableFault fault
       → ((found : _) → fault ≡ Nfit found → TellsLeft n source_old → (length (n.left source_old) ≤ most_bytes) × (table_of (n.left source_old) ≡ Err found))
       → (fault ≡ Limit → TellsLeft n source_old → most_bytes < length (n.left source_old))
-      → Draws n source_old source_new (is_of_source fault) → ComesTo m n (Some (Line bytes)) rig rig source_old source_new (Fails fault)
-  comes_table bytes rig source_old source_new fault is bad long draws = record {
-    cause = table_cause n bytes source_old fault is bad long;
-    faults = unasked m rig (Fails fault) (table_area fault is) (λ dimm same. not_area fault dimm is same);
-    source = draws;
-    answered = λ told. tt;
-    written = λ told. WritesOnly-same (named_by (Some (Line bytes))) (m.areas rig) (m.areas rig) refl;
-  }
+      → Draws n source_old source_new (is_of_source fault) → ComesUnsaid m n (Some (Line bytes)) rig rig source_old source_new (Fails fault)
+  comes_table bytes rig source_old source_new fault is bad long draws =
+      comes_early (Some (Line bytes)) rig source_old source_new fault (table_cause n bytes source_old fault is bad long (Reply None)) (table_area fault is) (λ dimm same. not_area fault dimm is same) draws
 
   -- the words are no form
-  pub comes_none : (asked : Option Asked) (rig : R) (source : N) → asked ≡ None → ComesTo m n asked rig rig source source (Fails Words)
-  comes_none None rig source is = record {
-    cause = refl;
-    faults = unasked m rig (Fails Words) refl (λ dimm same. cc);
-    source = unread n source;
-    answered = λ told. tt;
-    written = λ told. WritesOnly-same None (m.areas rig) (m.areas rig) refl;
-  }
+  pub comes_none : (asked : Option Asked) (rig : R) (source : N) → asked ≡ None → ComesUnsaid m n asked rig rig source source (Fails Words)
+  comes_none None rig source is = comes_early None rig source source Words refl refl (λ dimm same. cc) (unread n source)
   comes_none (Some asked) rig source is = absurd cc
 
-  -- memory was refused before anything was asked for
-  pub comes_memory : (asked : Option Asked) (rig : R) (source : N) → IsSome asked → ComesTo m n asked rig rig source source (Fails Memory)
-  comes_memory None rig source is = absurd cc
-  comes_memory (Some asked) rig source is = record {
-    cause = tt;
-    faults = unasked m rig (Fails Memory) refl (λ dimm same. cc);
-    source = unread n source;
-    answered = λ told. tt;
-    written = λ told. WritesOnly-same (named_by (Some asked)) (m.areas rig) (m.areas rig) refl;
-  }
+  -- memory was refused before an area was asked for anything
+  pub comes_memory : (asked : Option Asked) (rig : R) (source_old source_new : N) → IsSome asked → Draws n source_old source_new false
+      → ComesUnsaid m n asked rig rig source_old source_new (Fails Memory)
+  comes_memory None rig source_old source_new is draws = absurd cc
+  comes_memory (Some asked) rig source_old source_new is draws = comes_early (Some asked) rig source_old source_new Memory tt refl (λ dimm same. cc) draws
+
+-- a fault of reading the platform
+pub table_bad : (left : List ℕ) (fault : Fault) → ReadsPlatform left (Err fault) → (found : _) → fault ≡ Nfit found → (length left ≤ most_bytes) × (table_of left ≡ Err found)
+table_bad left fault reads found is = subst (λ f. ReadsPlatform left (Err f)) is reads
+
+pub table_long : (left : List ℕ) (fault : Fault) → ReadsPlatform left (Err fault) → fault ≡ Limit → most_bytes < length left
+table_long left fault reads is = subst (λ f. ReadsPlatform left (Err f)) is reads
+
+-- memory was refused
+pub is_memory : (done : Result Answer Fault) → IsErrAnd done (λ fault. fault ≡ Memory) → done ≡ Err Memory
+is_memory (Ok answer) is = absurd is
+is_memory (Err fault) is = ap Err is

@@ -1,5 +1,5 @@
 -- What a stop leaves of a run that says its text.
-use Rattle.std.proofs.Common.{◌≡◌, ◌≢◌, ℕ, zero, suc, true, List, ◌∷◌, ◌++◌, Option, Some, None, Result, Ok, Err, drop, length, take, refl, sym, ap, ◌∙◌, subst, arith, append_assoc, length-append}
+use Rattle.std.proofs.Common.{◌≡◌, ◌≢◌, ℕ, zero, suc, true, List, ◌∷◌, ◌++◌, Option, Some, None, drop, length, take, refl, sym, ap, ◌∙◌, subst, arith, append_assoc, length-append}
 use Rattle.std.specs.FinMap.{get}
 use Rattle.std.proofs.lemmas.List.{append_cancel_left}
 use Rattle.rig_trait.specs.declared.shown.Shown.{Ghosts}
@@ -13,17 +13,15 @@ use Rattle.label_area.specs.Inits.{IsVacant, initialised, slots_of}
 use Rattle.label_area.specs.Modules.{area_kind}
 use Rattle.label_area.proofs.FairRecords.{IsFair-same}
 use Rattle.label_area.proofs.Initialised.{vacant-initialised}
+use Rattle.report_json.specs.Texts.{initialised_line}
 use Rattle.nd_cli.specs.declared.faults.Fault.{Fault}
 use Rattle.nd_cli.specs.declared.faults.Fault.TheVariants.{Words, Nfit, Area, Source, Limit, Memory}
-use Rattle.nd_cli.specs.declared.lines.Command.{Command}
-use Rattle.nd_cli.specs.declared.lines.Command.TheVariants.{InitLabels}
-use Rattle.nd_cli.specs.declared.lines.WordFault.{WordFault}
-use Rattle.nd_cli.specs.Answers.{Answer, init_answer, init_answer_at, line_answer}
-use Rattle.nd_cli.specs.Lines.{command_in}
-use Rattle.nd_cli.specs.Outcomes.{IsAnsweredIf, LeavesSaid, LeavesUnsaid, Outcome, Replies, Fails, text_of}
-use Rattle.nd_cli.specs.Stops.{IsLeft, LeavesAreas, LeftUnsaid, WritesOnly, module_in, named_by}
-use Rattle.nd_cli.specs.Texts.{fault_line, initialised_line}
-use Rattle.nd_cli.specs.Words.{Asked, LabelsOf, Line}
+use Rattle.nd_cli.specs.declared.tasks.Task.{Task}
+use Rattle.nd_cli.specs.declared.tasks.Task.TheVariants.{Labels, Reply, Initialise}
+use Rattle.nd_cli.specs.Answers.{Answered, answer_to, init_answer, init_answer_at}
+use Rattle.nd_cli.specs.Outcomes.{IsAnswered, LeavesSaid, LeavesUnsaid, Outcome, Replies, Fails, text_of}
+use Rattle.nd_cli.specs.Stops.{IsLeft, LeavesAreas, LeftUnsaid, WritesOnly, named}
+use Rattle.nd_cli.specs.Texts.{fault_line}
 
 -- A front of a text says that a named area is initialised only where it is.
 abbrev pub Acknowledges : Option ℕ → Areas → Areas → List ℕ → Type 0
@@ -32,16 +30,10 @@ Acknowledges named areas now text = (dimm : ℕ) → named ≡ Some dimm → are
     → IsVacant (get now dimm) (slots_of (get areas dimm))
 
 module _ (areas : Areas) (dimm : ℕ) where
-  by_line : (line : Result (Option Command) WordFault) → module_in line ≡ Some dimm → line_answer line areas ≡ init_answer dimm areas
-  by_line (Ok (Some (InitLabels other))) is = let same : other ≡ dimm = cc in rw same refl
-  by_line (Ok None) is = absurd cc
-  by_line (Err fault) is = absurd cc
-
   module _ (uninit : area_kind (get areas dimm) ≡ Uninit) where
-    -- the answer to a line about a module whose area is Uninit
-    answer-named : (line : Result (Option Command) WordFault) → module_in line ≡ Some dimm
-        → line_answer line areas ≡ record { accepted = true; text = initialised_line dimm (slots_of (get areas dimm)); areas = initialised dimm areas }
-    answer-named line is = by_line line is ∙ ap (λ (kind : AreaKind). init_answer_at kind dimm areas) uninit
+    -- the areas that the answer about a module leaves whose area is Uninit
+    initialised_is : (init_answer dimm areas).areas ≡ initialised dimm areas
+    initialised_is = ap (λ (kind : AreaKind). (init_answer_at kind dimm areas).areas) uninit
 
     -- a front of a text that begins with another letter than the reply
     other_text : (first : ℕ) (rest : List ℕ) (n : ℕ) (more : List ℕ) → first ≢ 111 → take n (first ∷ rest) ≢ initialised_line dimm (slots_of (get areas dimm)) ++ more
@@ -60,14 +52,19 @@ fault_line-error Source = refl
 fault_line-error Limit = refl
 fault_line-error Memory = refl
 
-pub acknowledges : {R : Type 0} (m : Ghosts R) (asked : Option Asked) (old mid : R) (outcome : Outcome) → IsAnsweredIf m asked old mid outcome
-    → Acknowledges (named_by asked) (m.areas old) (m.areas mid) (text_of outcome)
-acknowledges m None old mid outcome answered dimm is uninit n more said = absurd cc
-acknowledges m (Some (LabelsOf other)) old mid outcome answered dimm is uninit n more said = absurd cc
-acknowledges m (Some (Line bytes)) old mid (Replies accepted text) answered dimm is uninit n more said =
-    is_vacant (m.areas old) dimm uninit (m.areas mid) (ap (λ (a : Answer). a.areas) (sym answered ∙ answer-named (m.areas old) dimm uninit (command_in bytes) is))
-acknowledges m (Some (Line bytes)) old mid (Fails fault) answered dimm is uninit n more said =
+same_module : (other dimm : ℕ) → Some other ≡ Some dimm → other ≡ dimm
+same_module other dimm is = cc
+
+pub acknowledges : {R : Type 0} (m : Ghosts R) (task : Task) (old mid : R) (outcome : Outcome) → IsAnswered m task old mid outcome
+    → Acknowledges (named task) (m.areas old) (m.areas mid) (text_of outcome)
+acknowledges m task old mid (Fails fault) answered dimm is uninit n more said =
     absurd (other_text (m.areas old) dimm uninit 101 (drop 1 (fault_line fault)) n more (λ same. omega (arith, same)) (ap (take n) (sym (fault_line-error fault)) ∙ said))
+acknowledges m (Labels other) old mid (Replies accepted text) answered dimm is uninit n more said = absurd cc
+acknowledges m (Reply reply) old mid (Replies accepted text) answered dimm is uninit n more said = absurd cc
+acknowledges m (Initialise other) old mid (Replies accepted text) answered dimm is uninit n more said =
+    let answer : init_answer dimm (m.areas old) ≡ record { accepted = accepted; text = text; areas = m.areas mid } =
+    subst (λ h. init_answer h (m.areas old) ≡ record { accepted = accepted; text = text; areas = m.areas mid }) (same_module other dimm is) answered in
+    is_vacant (m.areas old) dimm uninit (m.areas mid) (sym (ap (λ (a : Answered). a.areas) answer) ∙ initialised_is (m.areas old) dimm uninit)
 
 nothing_more : (said : List ℕ) (first : ℕ) (rest : List ℕ) → said ≡ said ++ first ∷ rest → ⊥
 nothing_more said first rest is = let longer = ap length is in omega (arith, longer, length-append said (first ∷ rest))
@@ -101,16 +98,16 @@ module _ (named : Option ℕ) (areas : Areas) (said : List ℕ) where
         (acknowledged dimm is uninit saying.count more (append_cancel_left said (take saying.count text) (line ++ more) front));
   }
 
-module _ {R : Type 0} {m : Ghosts R} (asked : Option Asked) where
+module _ {R : Type 0} {m : Ghosts R} (task : Task) where
   -- nothing is said
-  pub LeavesSaid-silent : (old new : R) → LeavesUnsaid m (named_by asked) old new → LeavesSaid m (named_by asked) old new
+  pub LeavesSaid-silent : (old new : R) → LeavesUnsaid m (named task) old new → LeavesSaid m (named task) old new
   LeavesSaid-silent old new left told =
-      weakened (LeftUnsaid (named_by asked) (m.areas old) (m.said old)) (IsLeft (named_by asked) (m.areas old) (m.said old)) (IsLeft-unsaid (named_by asked) (m.areas old) (m.said old)) (left told)
+      weakened (LeftUnsaid (named task) (m.areas old) (m.said old)) (IsLeft (named task) (m.areas old) (m.said old)) (IsLeft-unsaid (named task) (m.areas old) (m.said old)) (left told)
 
   -- a run, and the one call that says its text
-  pub LeavesSaid-saying : (old mid new : R) (outcome : Outcome) → LeavesUnsaid m (named_by asked) old mid → SaysNothing m old mid → (IsTold m old → IsAnsweredIf m asked old mid outcome)
-      → SayLeaves m mid new (text_of outcome) → LeavesSaid m (named_by asked) old new
+  pub LeavesSaid-saying : (old mid new : R) (outcome : Outcome) → LeavesUnsaid m (named task) old mid → SaysNothing m old mid → (IsTold m old → IsAnswered m task old mid outcome)
+      → SayLeaves m mid new (text_of outcome) → LeavesSaid m (named task) old new
   LeavesSaid-saying old mid new outcome left nothing answered stops told =
-      and_a_call (IsLeft (named_by asked) (m.areas old) (m.said old)) (IsSaying (m.may_leave mid) (m.said mid) (text_of outcome)) (LeavesSaid-silent old mid left told) stops
-      (λ c saying. IsLeft-saying (named_by asked) (m.areas old) (m.said old) (m.areas mid) (text_of outcome) (acknowledges m asked old mid outcome (answered told)) (m.may_leave mid) (m.said mid) c nothing.said
+      and_a_call (IsLeft (named task) (m.areas old) (m.said old)) (IsSaying (m.may_leave mid) (m.said mid) (text_of outcome)) (LeavesSaid-silent old mid left told) stops
+      (λ c saying. IsLeft-saying (named task) (m.areas old) (m.said old) (m.areas mid) (text_of outcome) (acknowledges m task old mid outcome (answered told)) (m.may_leave mid) (m.said mid) c nothing.said
       (λ from was. (left told).each from (m.counts_now mid (m.moment old) from (left told).later was)) (λ from was. (m.now_is mid from was).0) saying)

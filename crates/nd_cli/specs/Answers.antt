@@ -1,5 +1,5 @@
--- What a request is answered where nothing fails: all that is said, whether it was accepted, and the areas that are left.
-use Rattle.std.specs.Prelude.{◌≤◌, ℕ, Bool, true, false, IsOk, List, [], Option, Some, None, Result, Ok, Err, length}
+-- What a task is answered where nothing fails: all that is said, whether it was accepted, and the areas that are left.
+use Rattle.std.specs.Prelude.{ℕ, Bool, true, false, List, [], Option, Some, None}
 use Rattle.std.specs.FinMap.{get}
 use Rattle.rig_trait.specs.Areas.{Areas}
 use Rattle.label_area.specs.declared.blocks.Current.{Current}
@@ -7,64 +7,78 @@ use Rattle.label_area.specs.Blocks.{current_block}
 use Rattle.label_area.specs.Inits.{initialised, slots_of}
 use Rattle.label_area.specs.Modules.{area_kind, module_at}
 use Rattle.module_labels.specs.declared.kind.AreaKind.{AreaKind}
-use Rattle.module_labels.specs.declared.kind.AreaKind.TheVariants.{Missing, WrongSize, Ready, Foreign, Uninit}
-use Rattle.nfit_tables.specs.Limits.{most_bytes}
-use Rattle.nfit_tables.specs.Reading.{table_of}
-use Rattle.nd_cli.specs.declared.lines.Command.{Command}
-use Rattle.nd_cli.specs.declared.lines.Command.TheVariants.{InitLabels}
-use Rattle.nd_cli.specs.declared.lines.WordFault.{WordFault}
-use Rattle.nd_cli.specs.declared.replies.Refusal.{Refusal}
-use Rattle.nd_cli.specs.declared.replies.Refusal.TheVariants.{Words, NotReady, AlreadyReady}
-use Rattle.nd_cli.specs.Lines.{command_in}
-use Rattle.nd_cli.specs.Texts.{initialised_line, listing, refusal_text}
-use Rattle.nd_cli.specs.Words.{Asked, LabelsOf, Line}
+use Rattle.module_labels.specs.declared.kind.AreaKind.TheVariants as kinds
+use Rattle.report_json.specs.Texts.{reply_text}
+use Rattle.view_types.specs.declared.refusal.Refusal.{Refusal}
+use Rattle.view_types.specs.declared.refusal.Refusal.TheVariants.{NotReady, AlreadyReady}
+use Rattle.view_types.specs.declared.reply.Reply as replies
+use Rattle.view_types.specs.declared.reply.Reply.TheVariants.{Initialised, Refused}
+use Rattle.view_types.specs.declared.states.AreaState.{AreaState}
+use Rattle.view_types.specs.declared.states.AreaState.TheVariants as states
+use Rattle.view_types.specs.declared.states.Status.TheVariants.{Area}
+use Rattle.nd_cli.specs.declared.tasks.Task.{Task}
+use Rattle.nd_cli.specs.declared.tasks.Task.TheVariants.{Labels, Reply, Initialise}
+use Rattle.label_listing.specs.Listing.{listing}
 
--- an NFIT that is read: it is not too long, and its bytes are one
-abbrev pub IsAccepted : List ℕ → Type 0
-IsAccepted nfit = (length nfit ≤ most_bytes) × IsOk (table_of nfit)
-
-pub record Answer : Type 0 where
+pub record Answered : Type 0 where
   pub accepted : Bool
   pub text : List ℕ
   pub areas : Areas
 
--- a refusal leaves the areas
-abbrev pub refused : Refusal → Areas → Answer
-refused refusal areas = record { accepted = false; text = refusal_text refusal; areas = areas }
+abbrev pub is_accepted : replies.Reply → Bool
+is_accepted (Refused refusal) = false
+is_accepted _ = true
+
+-- a blank line and a comment have no reply
+abbrev pub is_accepted_if : Option replies.Reply → Bool
+is_accepted_if None = true
+is_accepted_if (Some reply) = is_accepted reply
+
+abbrev pub text_if : Option replies.Reply → List ℕ
+text_if None = []
+text_if (Some reply) = reply_text reply
+
+-- a reply, and these areas
+abbrev pub answered : Option replies.Reply → Areas → Answered
+answered reply areas = record { accepted = is_accepted_if reply; text = text_if reply; areas = areas }
+
+abbrev pub refused : Refusal → Areas → Answered
+refused refusal areas = answered (Some (Refused refusal)) areas
+
+-- the state of an area of a kind; nothing is told of the slots of a Ready one
+abbrev pub state_of : AreaKind → AreaState
+state_of kinds.Missing = states.Missing
+state_of kinds.WrongSize = states.WrongSize
+state_of kinds.Uninit = states.Uninit
+state_of kinds.Foreign = states.Foreign
+state_of kinds.Ready = states.Ready 0 0
+
+-- why what needs a Ready area is not done with one of this kind
+abbrev pub not_ready : ℕ → AreaKind → Refusal
+not_ready dimm kind = NotReady (Area dimm (state_of kind))
 
 -- the listing of an area that is Ready, by its current block, and else the refusal
-abbrev pub listing_answer : ℕ → Areas → Option Current → Answer
+abbrev pub listing_answer : ℕ → Areas → Option Current → Answered
 listing_answer dimm areas (Some current) = record { accepted = true; text = listing current (module_at areas dimm); areas = areas }
-listing_answer dimm areas None = refused (NotReady dimm (area_kind (get areas dimm))) areas
+listing_answer dimm areas None = refused (not_ready dimm (area_kind (get areas dimm))) areas
 
-abbrev pub labels_answer : ℕ → Areas → Answer
+abbrev pub labels_answer : ℕ → Areas → Answered
 labels_answer dimm areas = listing_answer dimm areas (current_block (get areas dimm))
 
 -- why an area of a kind is not initialised
 abbrev pub init_refusal : ℕ → AreaKind → Refusal
-init_refusal dimm Ready = AlreadyReady dimm
-init_refusal dimm Missing = NotReady dimm Missing
-init_refusal dimm WrongSize = NotReady dimm WrongSize
-init_refusal dimm Foreign = NotReady dimm Foreign
-init_refusal dimm Uninit = NotReady dimm Uninit
+init_refusal dimm kinds.Ready = AlreadyReady dimm
+init_refusal dimm kind = not_ready dimm kind
 
 -- the area of a module is initialised where it is of the one kind for it
-abbrev pub init_answer_at : AreaKind → ℕ → Areas → Answer
-init_answer_at Uninit dimm areas = record { accepted = true; text = initialised_line dimm (slots_of (get areas dimm)); areas = initialised dimm areas }
+abbrev pub init_answer_at : AreaKind → ℕ → Areas → Answered
+init_answer_at kinds.Uninit dimm areas = answered (Some (Initialised dimm (slots_of (get areas dimm)))) (initialised dimm areas)
 init_answer_at kind dimm areas = refused (init_refusal dimm kind) areas
 
-abbrev pub init_answer : ℕ → Areas → Answer
+abbrev pub init_answer : ℕ → Areas → Answered
 init_answer dimm areas = init_answer_at (area_kind (get areas dimm)) dimm areas
 
-abbrev pub command_answer : Command → Areas → Answer
-command_answer (InitLabels dimm) areas = init_answer dimm areas
-
--- the answer to a line: a blank one or a comment has no reply
-abbrev pub line_answer : Result (Option Command) WordFault → Areas → Answer
-line_answer (Ok (Some command)) areas = command_answer command areas
-line_answer (Ok None) areas = record { accepted = true; text = []; areas = areas }
-line_answer (Err fault) areas = refused (Words fault) areas
-
-abbrev pub answer_to : Asked → Areas → Answer
-answer_to (LabelsOf dimm) areas = labels_answer dimm areas
-answer_to (Line bytes) areas = line_answer (command_in bytes) areas
+abbrev pub answer_to : Task → Areas → Answered
+answer_to (Labels dimm) areas = labels_answer dimm areas
+answer_to (Reply reply) areas = answered reply areas
+answer_to (Initialise dimm) areas = init_answer dimm areas

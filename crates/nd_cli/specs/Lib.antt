@@ -1,6 +1,5 @@
 pub mod Words
-pub mod Lines
-pub mod Digits
+pub mod Tasks
 pub mod Texts
 pub mod Statuses
 pub mod Answers

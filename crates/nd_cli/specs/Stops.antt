@@ -1,5 +1,5 @@
 -- What a stop leaves at any moment of a run.
-use Rattle.std.specs.Prelude.{◌≡◌, ◌≢◌, ◌⊎◌, ℕ, List, ◌++◌, Option, Some, None, Result, Ok, Err}
+use Rattle.std.specs.Prelude.{◌≡◌, ◌≢◌, ◌⊎◌, ℕ, List, ◌++◌, Option, Some, None}
 use Rattle.std.specs.FinMap.{get}
 use Rattle.rig_trait.specs.Areas.{Areas}
 use Rattle.rig_trait.specs.Records.{CrashRecord}
@@ -7,28 +7,15 @@ use Rattle.label_area.specs.Fair.{IsFair}
 use Rattle.label_area.specs.Inits.{IsVacant, slots_of}
 use Rattle.label_area.specs.Modules.{area_kind}
 use Rattle.module_labels.specs.declared.kind.AreaKind.TheVariants.{Uninit}
-use Rattle.nd_cli.specs.declared.lines.Command.{Command}
-use Rattle.nd_cli.specs.declared.lines.Command.TheVariants.{InitLabels}
-use Rattle.nd_cli.specs.declared.lines.WordFault.{WordFault}
-use Rattle.nd_cli.specs.Lines.{command_in}
-use Rattle.nd_cli.specs.Texts.{initialised_line}
-use Rattle.nd_cli.specs.Words.{Asked, LabelsOf, Line}
+use Rattle.report_json.specs.Texts.{initialised_line}
+use Rattle.nd_cli.specs.declared.tasks.Task.{Task}
+use Rattle.nd_cli.specs.declared.tasks.Task.TheVariants.{Labels, Reply, Initialise}
 
--- the module whose area a line is about
-abbrev pub module_in : Result (Option Command) WordFault → Option ℕ
-module_in (Ok (Some (InitLabels dimm))) = Some dimm
-module_in (Ok None) = None
-module_in (Err fault) = None
-
--- the module whose area a request initialises, if it is such a request
-abbrev pub named : Asked → Option ℕ
-named (LabelsOf dimm) = None
-named (Line bytes) = module_in (command_in bytes)
-
--- the same of the words of a run
-abbrev pub named_by : Option Asked → Option ℕ
-named_by None = None
-named_by (Some asked) = named asked
+-- the module whose area a task initialises
+abbrev pub named : Task → Option ℕ
+named (Labels dimm) = None
+named (Reply reply) = None
+named (Initialise dimm) = Some dimm
 
 -- Only the area that is named may be written, and that only where it is Uninit.
 pub record WritesOnly (named : Option ℕ) (areas now : Areas) : Type 0 where

@@ -1,11 +1,10 @@
 -- The words of a command line, and the form that they are.
 use Rattle.std.specs.Prelude.{ℕ, ◌^◌, ◌&&◌, Bool, List, [], ◌∷◌, ◌++◌, Option, Some, None, codes, drop, false, if◌then◌else◌, length, nat_eq, nat_le, nat_lt, not, slice_get, unwrap_or, String}
 use Rattle.std.specs.declared.alloc.Global.{Global}
-use Rattle.std.specs.Char.{is_digit}
 use Rattle.std.specs.List.{after_first, before_first, join_by, list_all, list_any, starts_with}
 use Rattle.std.specs.Option.{option_map}
 use Rattle.std.specs.Str.{bytes_eq}
-use Rattle.std.specs.Str.Parse.{digits_value}
+use Rattle.cmd_words.specs.Numbers.{below, number}
 use Rattle.std.specs.String.{string_bytes}
 use Rattle.nd_cli.specs.declared.words.Form.{Form}
 use Rattle.nd_cli.specs.declared.words.Form.TheVariants.{Labels, Do}
@@ -28,24 +27,6 @@ is_option word =
 -- the words without a first `--`
 abbrev pub operands : List Word → List Word
 operands words = before_first is_dashes words ++ after_first is_dashes words
-
--- 1 to `most` digits of a base, and nothing else
-abbrev pub is_numeral : ℕ → ℕ → List ℕ → Bool
-is_numeral base most text = nat_le 1 (length text) && nat_le (length text) most && list_all (λ c. is_digit c base) text
-
--- the number that they write
-abbrev pub numeral : ℕ → ℕ → List ℕ → Option ℕ
-numeral base most text = if is_numeral base most text then Some (digits_value base text) else None
-
--- the number, where there is one and it is below a bound
-abbrev pub below : ℕ → Option ℕ → Option ℕ
-below bound (Some n) = if nat_lt n bound then Some n else None
-below bound None = None
-
--- a number: 1 to 20 decimal digits, or `0x` and 1 to 16 hexadecimal digits of either case
-abbrev pub number : List ℕ → Option ℕ
-number text =
-    if starts_with nat_eq text (codes "0x") then numeral 16 16 (drop 2 text) else numeral 10 20 text
 
 -- a device handle: a number below 2^32
 abbrev pub handle : List ℕ → Option ℕ

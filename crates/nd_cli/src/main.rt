@@ -1,14 +1,12 @@
 //! The program `nd`: one command line over the files of a folder.
 #![tactic(auto)]
 
+mod answers;
 mod commands;
 mod faults;
-mod lines;
-mod listing;
-mod replies;
-mod short_text;
 mod statuses;
 mod tables;
+mod tasks;
 mod texts;
 mod top;
 mod words;

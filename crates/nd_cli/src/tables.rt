@@ -1,11 +1,14 @@
-//! The NFIT of a platform, as a source gives it.
+//! The platform, as a source gives its NFIT.
 
-ghost use Rattle.std.specs.Prelude.{IfErr};
+ghost use Rattle.std.specs.Prelude.{IfErr, IfOk};
+ghost use Rattle.nfit_tables.specs.Proper.{IsProper};
+ghost use Rattle.region_map.specs.Platforms.{IsSound};
 ghost use Rattle.rig_trait.specs.Sources.{Draws, TellsLeft};
-ghost use Rattle.nd_cli.specs.Tables.{IsTableFault, ReadsAll, ReadsTable, is_source_failed};
+ghost use Rattle.nd_cli.specs.Tables.{IsTableFault, ReadsAll, ReadsPlatform, ReadsTable, is_source_failed};
 
 use crate::faults::Fault;
 use nfit_tables::{MOST_BYTES, Nfit, ReadNfit, read_nfit};
+use region_map::Platform;
 use rig_trait::{Failed, Source};
 use std::alloc::Global;
 
@@ -15,9 +18,21 @@ const LIMIT: usize = MOST_BYTES as usize;
 /// How many bytes are asked for at once.
 const CHUNK: usize = 4096;
 
+/// The platform of the NFIT that all bytes of a source are.
+pub fn read_platform<N: Source>(alloc: Global, source: &mut N) -> Result<Platform, Fault>
+    ensures platform { TellsLeft N.Source source.old → ReadsPlatform (N.left source.old) result }
+    ensures sound { IfOk result IsSound }
+    ensures fault { IfErr result IsTableFault }
+    ensures draws { Draws N.Source source.old source.new (is_source_failed result) }
+{
+    let table = read_table(alloc, source)?;
+    Ok(Platform::of(alloc, &table)?)
+}
+
 /// The NFIT that all bytes of a source are.
-pub fn read_table<N: Source>(alloc: Global, source: &mut N) -> Result<Nfit, Fault>
+fn read_table<N: Source>(alloc: Global, source: &mut N) -> Result<Nfit, Fault>
     ensures table { TellsLeft N.Source source.old → ReadsTable (N.left source.old) result }
+    ensures proper { IfOk result IsProper }
     ensures fault { IfErr result IsTableFault }
     ensures draws { Draws N.Source source.old source.new (is_source_failed result) }
 {

@@ -9,11 +9,7 @@ use test_areas::{LABEL, LabelFields, block, name, nfit, old_block, small_area, t
 
 /// A command line, and what is wanted of its run: the status, and all that is said.
 #[derive(Clone, Copy)]
-struct Row<'a> {
-    line: &'a str,
-    status: u8,
-    text: &'a str,
-}
+struct Row<'a>(&'a str, u8, &'a str);
 
 const FREE: [u8; 256] = [0xee; 256];
 
@@ -21,6 +17,20 @@ const ZEROS: [u8; 256] = [0; 256];
 
 /// The bits of the free slots of two.
 const ALL_FREE: u8 = 3;
+
+const EMPTY: &str = "ok labels=0 slots=2 seq=3 place=0\n";
+
+const INITIALISE: Row<'static> = Row(
+    "do . init-labels dimm=1",
+    0,
+    "ok initialised dimm=0x00000001 slots=2\n",
+);
+
+const UNINIT: &str = "refused not-ready uninit dimm=0x00000001\n";
+
+const FOREIGN: &str = "refused not-ready foreign dimm=0x00000001\n";
+
+const AREA_FAILED: &str = "error area dimm=0x00000001\n";
 
 /// The words of a command line without quotes.
 fn words(alloc: Global, line: &str) -> Result<Vec<String>, AllocError> {
@@ -38,14 +48,15 @@ fn rig_of(alloc: Global, area: &[u8]) -> Result<MemoryRig, AllocError> {
     Ok(rig)
 }
 
-/// Runs a row over an area, on a platform whose NFIT has no structures.
+/// Runs a row over an area, on a platform with the modules 0x1 and 0x101.
 fn run(rt: &impl Abort, alloc: Global, area: &[u8], row: Row) -> Result<(), Fail> {
     run_on(rt, alloc, &mut rig_of(alloc, area)?, row)
 }
 
-/// Runs a row over a rig, on a platform whose NFIT has no structures.
+/// Runs a row over a rig, on that platform.
 fn run_on(rt: &impl Abort, alloc: Global, rig: &mut MemoryRig, row: Row) -> Result<(), Fail> {
-    let mut source = MemorySource::new(nfit(alloc, &[])?, Vec::new(alloc));
+    let table = nfit(alloc, &two_modules(alloc)?)?;
+    let mut source = MemorySource::new(table, Vec::new(alloc));
     run_with(rt, alloc, rig, &mut source, row)
 }
 
@@ -56,12 +67,13 @@ fn run_with(
     source: &mut MemorySource,
     row: Row,
 ) -> Result<(), Fail> {
+    let Row(line, wanted, text) = row;
     let before = rig.said().len();
-    let words = words(alloc, row.line)?;
+    let words = words(alloc, line)?;
     let status = nd_top(alloc, &words, rig, source);
     let said = rig.said().get(before..).ok_or("nothing is taken back")?;
-    assert_eq!(rt; status, row.status, "{words:?}");
-    assert_eq!(rt; said, row.text.as_bytes(), "{words:?}");
+    assert_eq!(rt; status, wanted, "{words:?}");
+    assert_eq!(rt; said, text.as_bytes(), "{words:?}");
     Ok(())
 }
 
@@ -72,283 +84,161 @@ fn expect_area(rt: &impl Abort, rig: &MemoryRig, bytes: &[u8]) -> Result<(), Fai
     Ok(())
 }
 
-/// The two index blocks of an area of two slots, and what is said of it.
+/// Lists an area of two slots with these two blocks and slots.
+fn list(rt: &impl Abort, alloc: Global, parts: &[[u8; 256]; 4], text: &str) -> Result<(), Fail> {
+    let status = if text.starts_with("refused") { 1 } else { 0 };
+    let area = small_area(alloc, parts)?;
+    run(rt, alloc, &area, Row("labels . 1", status, text))
+}
+
+/// The sequence numbers of the two index blocks, and what is said.
+const SEQUENCES: [(u32, u32, &str); 7] = [
+    (3, 2, EMPTY),
+    (1, 2, "ok labels=0 slots=2 seq=2 place=1\n"),
+    (2, 3, "ok labels=0 slots=2 seq=3 place=1\n"),
+    (2, 1, "ok labels=0 slots=2 seq=2 place=0\n"),
+    (1, 3, "ok labels=0 slots=2 seq=1 place=0\n"),
+    (3, 1, "ok labels=0 slots=2 seq=1 place=1\n"),
+    (2, 2, "ok labels=0 slots=2 seq=2 place=1\n"),
+];
+
 #[test]
-fn blocks(rt: HostRuntime) -> Result<(), Fail> {
-    let alloc = rt.alloc();
-    let first = |seq| block(false, seq, ALL_FREE);
-    let second = |seq| block(true, seq, ALL_FREE);
-    let uninit = "refused not-ready uninit dimm=0x00000001\n";
-    let foreign = "refused not-ready foreign dimm=0x00000001\n";
-    let rows = [
-        (
-            first(3),
-            second(2),
-            0,
-            "ok labels=0 slots=2 seq=3 place=0\n",
-        ),
-        (
-            first(1),
-            second(2),
-            0,
-            "ok labels=0 slots=2 seq=2 place=1\n",
-        ),
-        (
-            first(2),
-            second(3),
-            0,
-            "ok labels=0 slots=2 seq=3 place=1\n",
-        ),
-        (
-            first(2),
-            second(1),
-            0,
-            "ok labels=0 slots=2 seq=2 place=0\n",
-        ),
-        (
-            first(1),
-            second(3),
-            0,
-            "ok labels=0 slots=2 seq=1 place=0\n",
-        ),
-        (
-            first(3),
-            second(1),
-            0,
-            "ok labels=0 slots=2 seq=1 place=1\n",
-        ),
-        (
-            first(2),
-            second(2),
-            0,
-            "ok labels=0 slots=2 seq=2 place=1\n",
-        ),
-        (
-            torn(first(3)),
-            second(2),
-            0,
-            "ok labels=0 slots=2 seq=2 place=1\n",
-        ),
-        (
-            first(3),
-            torn(second(1)),
-            0,
-            "ok labels=0 slots=2 seq=3 place=0\n",
-        ),
-        (torn(first(3)), torn(second(2)), 1, uninit),
-        (second(3), first(2), 1, foreign),
-        (old_block(false, 2), ZEROS, 1, foreign),
-        (torn(old_block(false, 2)), ZEROS, 1, uninit),
-        (
-            old_block(false, 2),
-            second(3),
-            0,
-            "ok labels=0 slots=2 seq=3 place=1\n",
-        ),
-        (ZEROS, ZEROS, 1, uninit),
-    ];
-    for (first, second, status, text) in rows {
-        let area = small_area(alloc, &[first, second, FREE, FREE])?;
-        run(
-            &rt,
-            alloc,
-            &area,
-            Row {
-                line: "labels . 1",
-                status,
-                text,
-            },
-        )?;
+fn current_blocks(rt: HostRuntime) -> Result<(), Fail> {
+    for (first, second, text) in SEQUENCES {
+        let first = block(false, first, ALL_FREE);
+        let second = block(true, second, ALL_FREE);
+        list(&rt, rt.alloc(), &[first, second, FREE, FREE], text)?;
     }
     Ok(())
 }
 
-/// The 64 bytes of a name, and how it is printed.
+/// Blocks of which one or none is usable.
+#[test]
+fn other_blocks(rt: HostRuntime) -> Result<(), Fail> {
+    let first = block(false, 3, ALL_FREE);
+    let second = block(true, 2, ALL_FREE);
+    let old = old_block(false, 2);
+    let rows = [
+        (torn(first), second, "ok labels=0 slots=2 seq=2 place=1\n"),
+        (first, torn(second), EMPTY),
+        (torn(first), torn(second), UNINIT),
+        (second, first, FOREIGN),
+        (old, ZEROS, FOREIGN),
+        (torn(old), ZEROS, UNINIT),
+        (old, second, "ok labels=0 slots=2 seq=2 place=1\n"),
+        (ZEROS, ZEROS, UNINIT),
+    ];
+    for (first, second, text) in rows {
+        list(&rt, rt.alloc(), &[first, second, FREE, FREE], text)?;
+    }
+    Ok(())
+}
+
+/// Lists an area whose second slot has a label with this name.
+fn list_name(rt: &impl Abort, alloc: Global, name: [u8; 64], printed: &str) -> Result<(), Fail> {
+    let text = format!(in alloc;
+        "  slot=1 uuid=0f6b1a52-7c3e-4d28-9a41-5be0c7d2e813 name={printed} flags=0x00000000 nlabel=1 position=0 cookie=0x0000a3de00001235 dpa=0x0000000000000000 size=4194304\nok labels=1 slots=2 seq=2 place=0\n"
+    )?;
+    let label = LabelFields { name, ..LABEL }.bytes();
+    let parts = [block(false, 2, 1), block(true, 1, ALL_FREE), FREE, label];
+    list(rt, alloc, &parts, &text)
+}
+
+/// Names, and how they are printed.
+const NAMES: [(&[u8], &str); 7] = [
+    (b"db0", "db0"),
+    (b"", "-"),
+    (b"-", "%2D"),
+    (b"--", "--"),
+    (b"a b%\"\x7f\xff~!", "a%20b%25%22%7F%FF~!"),
+    (b"line\nend", "line%0Aend"),
+    (b"cut\0here", "cut"),
+];
+
 #[test]
 fn names(rt: HostRuntime) -> Result<(), Fail> {
-    let alloc = rt.alloc();
-    let rows = [
-        (name(b"db0"), "db0"),
-        (name(b""), "-"),
-        (name(b"-"), "%2D"),
-        (name(b"--"), "--"),
-        (name(b"a b%\"\x7f\xff~!"), "a%20b%25%22%7F%FF~!"),
-        (name(b"line\nend"), "line%0Aend"),
-        (name(b"cut\0here"), "cut"),
-        (
-            [b'x'; 64],
-            "xxxxxxxxxxxxxxxxxxxxxxxxxxxxxxxxxxxxxxxxxxxxxxxxxxxxxxxxxxxxxxxx",
-        ),
-    ];
-    for (name, printed) in rows {
-        let text = format!(in alloc;
-            "  slot=1 uuid=0f6b1a52-7c3e-4d28-9a41-5be0c7d2e813 name={printed} flags=0x00000000 nlabel=1 position=0 cookie=0x0000a3de00001235 dpa=0x0000000000000000 size=4194304\nok labels=1 slots=2 seq=2 place=0\n"
-        )?;
-        let label = LabelFields { name, ..LABEL }.bytes();
-        let area = small_area(
-            alloc,
-            &[block(false, 2, 1), block(true, 1, ALL_FREE), FREE, label],
-        )?;
-        run(
-            &rt,
-            alloc,
-            &area,
-            Row {
-                line: "labels . 1",
-                status: 0,
-                text: text.as_str(),
-            },
-        )?;
+    for (bytes, printed) in NAMES {
+        list_name(&rt, rt.alloc(), name(bytes), printed)?;
     }
-    Ok(())
+    let longest = "xxxxxxxxxxxxxxxxxxxxxxxxxxxxxxxxxxxxxxxxxxxxxxxxxxxxxxxxxxxxxxxx";
+    list_name(&rt, rt.alloc(), [b'x'; 64], longest)
 }
 
-/// Slots that are in use and hold no label of theirs, and labels with fields of their greatest values.
+/// Lists an area whose first slot is in use and has these bytes.
+fn list_slot(rt: &impl Abort, alloc: Global, slot: [u8; 256], text: &str) -> Result<(), Fail> {
+    let second = torn(block(true, 2, ALL_FREE));
+    list(rt, alloc, &[block(false, 1, 2), second, slot, FREE], text)
+}
+
+/// A slot in use that holds no label of its own, or one whose bytes are all zero.
 #[test]
 fn slots(rt: HostRuntime) -> Result<(), Fail> {
-    let alloc = rt.alloc();
     let mut wrong_checksum = LabelFields { slot: 0, ..LABEL }.bytes();
     wrong_checksum[255] ^= 1;
-    let greatest = LabelFields {
-        uuid: [0xff; 16],
-        name: [0xff; 64],
-        flags: u32::MAX,
-        nlabel: u16::MAX,
-        position: u16::MAX,
-        cookie: u64::MAX,
-        lba_size: u64::MAX,
-        dpa: u64::MAX,
-        raw_size: u64::MAX,
-        slot: 0,
-        alignment: 0xff,
-        type_guid: [0xff; 16],
-        abstraction: [0xff; 16],
-    };
-    let greatest_line =
-        "  slot=0 uuid=ffffffff-ffff-ffff-ffff-ffffffffffff name=%FF%FF%FF%FF%FF%FF%FF%FF%FF%FF%FF%FF%FF%FF%FF%FF%FF%FF%FF%FF%FF%FF%FF%FF%FF%FF%FF%FF%FF%FF%FF%FF%FF%FF%FF%FF%FF%FF%FF%FF%FF%FF%FF%FF%FF%FF%FF%FF%FF%FF%FF%FF%FF%FF%FF%FF%FF%FF%FF%FF%FF%FF%FF%FF flags=0xffffffff nlabel=65535 position=65535 cookie=0xffffffffffffffff dpa=0xffffffffffffffff size=18446744073709551615\nok labels=1 slots=2 seq=1 place=0\n";
-    let zero_line =
-        "  slot=0 uuid=00000000-0000-0000-0000-000000000000 name=- flags=0x00000000 nlabel=0 position=0 cookie=0x0000000000000000 dpa=0x0000000000000000 size=0\nok labels=1 slots=2 seq=1 place=0\n";
     let none = "ok labels=0 slots=2 seq=1 place=0\n";
-    let rows = [
-        (wrong_checksum, none),
-        (LABEL.bytes(), none),
-        (FREE, none),
-        (ZEROS, zero_line),
-        (greatest.bytes(), greatest_line),
-    ];
-    for (slot, text) in rows {
-        let area = small_area(
-            alloc,
-            &[
-                block(false, 1, 2),
-                torn(block(true, 2, ALL_FREE)),
-                slot,
-                FREE,
-            ],
-        )?;
-        run(
-            &rt,
-            alloc,
-            &area,
-            Row {
-                line: "labels . 1",
-                status: 0,
-                text,
-            },
-        )?;
-    }
-    Ok(())
+    list_slot(&rt, rt.alloc(), wrong_checksum, none)?;
+    list_slot(&rt, rt.alloc(), LABEL.bytes(), none)?;
+    list_slot(&rt, rt.alloc(), FREE, none)?;
+    let zero =
+        "  slot=0 uuid=00000000-0000-0000-0000-000000000000 name=- flags=0x00000000 nlabel=0 position=0 cookie=0x0000000000000000 dpa=0x0000000000000000 size=0\nok labels=1 slots=2 seq=1 place=0\n";
+    list_slot(&rt, rt.alloc(), ZEROS, zero)
 }
 
+/// A label with fields of their greatest values.
+const GREATEST: LabelFields = LabelFields {
+    uuid: [0xff; 16],
+    name: [0xff; 64],
+    flags: u32::MAX,
+    nlabel: u16::MAX,
+    position: u16::MAX,
+    cookie: u64::MAX,
+    lba_size: u64::MAX,
+    dpa: u64::MAX,
+    raw_size: u64::MAX,
+    slot: 0,
+    alignment: 0xff,
+    type_guid: [0xff; 16],
+    abstraction: [0xff; 16],
+};
+
+#[test]
+fn greatest_fields(rt: HostRuntime) -> Result<(), Fail> {
+    let text =
+        "  slot=0 uuid=ffffffff-ffff-ffff-ffff-ffffffffffff name=%FF%FF%FF%FF%FF%FF%FF%FF%FF%FF%FF%FF%FF%FF%FF%FF%FF%FF%FF%FF%FF%FF%FF%FF%FF%FF%FF%FF%FF%FF%FF%FF%FF%FF%FF%FF%FF%FF%FF%FF%FF%FF%FF%FF%FF%FF%FF%FF%FF%FF%FF%FF%FF%FF%FF%FF%FF%FF%FF%FF%FF%FF%FF%FF flags=0xffffffff nlabel=65535 position=65535 cookie=0xffffffffffffffff dpa=0xffffffffffffffff size=18446744073709551615\nok labels=1 slots=2 seq=1 place=0\n";
+    list_slot(&rt, rt.alloc(), GREATEST.bytes(), text)
+}
+
+const WRONG_SIZE: Row<'static> = Row(
+    "labels . 1",
+    1,
+    "refused not-ready wrong-size dimm=0x00000001\n",
+);
+
 /// Sizes of areas of zeros, and what is said of them.
+const SIZES: [(usize, Row); 10] = [
+    (1024, Row("labels . 0x1", 1, UNINIT)),
+    (4096, Row("-- labels . 1", 1, UNINIT)),
+    (0, WRONG_SIZE),
+    (1000, WRONG_SIZE),
+    (768, WRONG_SIZE),
+    (1_048_832, WRONG_SIZE),
+    (
+        1024,
+        Row(
+            "labels . 4294967295",
+            1,
+            "refused not-ready missing dimm=0xffffffff\n",
+        ),
+    ),
+    (1024, Row("labels . 4294967296", 2, "error words\n")),
+    (1024, Row("", 2, "error words\n")),
+    (1024, Row("run", 2, "error words\n")),
+];
+
 #[test]
 fn words_and_sizes(rt: HostRuntime) -> Result<(), Fail> {
     let alloc = rt.alloc();
-    let uninit = "refused not-ready uninit dimm=0x00000001\n";
-    let wrong_size = "refused not-ready wrong-size dimm=0x00000001\n";
-    let rows = [
-        (
-            1024,
-            Row {
-                line: "labels . 0x1",
-                status: 1,
-                text: uninit,
-            },
-        ),
-        (
-            4096,
-            Row {
-                line: "-- labels . 1",
-                status: 1,
-                text: uninit,
-            },
-        ),
-        (
-            0,
-            Row {
-                line: "labels . 1",
-                status: 1,
-                text: wrong_size,
-            },
-        ),
-        (
-            1000,
-            Row {
-                line: "labels . 1",
-                status: 1,
-                text: wrong_size,
-            },
-        ),
-        (
-            768,
-            Row {
-                line: "labels . 1",
-                status: 1,
-                text: wrong_size,
-            },
-        ),
-        (
-            1_048_832,
-            Row {
-                line: "labels . 1",
-                status: 1,
-                text: wrong_size,
-            },
-        ),
-        (
-            1024,
-            Row {
-                line: "labels . 4294967295",
-                status: 1,
-                text: "refused not-ready missing dimm=0xffffffff\n",
-            },
-        ),
-        (
-            1024,
-            Row {
-                line: "labels . 4294967296",
-                status: 2,
-                text: "error words\n",
-            },
-        ),
-        (
-            1024,
-            Row {
-                line: "",
-                status: 2,
-                text: "error words\n",
-            },
-        ),
-        (
-            1024,
-            Row {
-                line: "run",
-                status: 2,
-                text: "error words\n",
-            },
-        ),
-    ];
-    for (size, row) in rows {
+    for (size, row) in SIZES {
         run(&rt, alloc, &vec![in alloc; 0; size]?, row)?;
     }
     let mut rig = MemoryRig::new(alloc, 64)?;
@@ -359,154 +249,67 @@ fn words_and_sizes(rt: HostRuntime) -> Result<(), Fail> {
 }
 
 /// The calls that fail, the room, how often the rig is read, and what is said.
+const FAULTS: [([u64; 2], u64, u64, Row); 12] = [
+    ([9, 9], 64, 2, Row("labels . 1", 0, EMPTY)),
+    ([0, 9], 64, 1, Row("labels . 1", 4, AREA_FAILED)),
+    ([1, 9], 64, 2, Row("labels . 1", 4, AREA_FAILED)),
+    ([2, 9], 64, 2, Row("labels . 1", 7, "")),
+    ([0, 1], 64, 1, Row("labels . 1", 7, "")),
+    ([1, 2], 64, 2, Row("labels . 1", 7, "")),
+    ([9, 9], 33, 2, Row("labels . 1", 7, "")),
+    ([9, 9], 34, 2, Row("labels . 1", 0, EMPTY)),
+    (
+        [9, 9],
+        64,
+        1,
+        Row(
+            "labels . 2",
+            1,
+            "refused not-ready missing dimm=0x00000002\n",
+        ),
+    ),
+    (
+        [0, 9],
+        64,
+        1,
+        Row("labels . 2", 4, "error area dimm=0x00000002\n"),
+    ),
+    ([1, 9], 64, 1, Row("labels . 2", 7, "")),
+    ([0, 9], 64, 0, Row("labels", 7, "")),
+];
+
 #[test]
 fn faults(rt: HostRuntime) -> Result<(), Fail> {
     let alloc = rt.alloc();
-    let listing = "ok labels=0 slots=2 seq=3 place=0\n";
-    let first = Row {
-        line: "labels . 1",
-        status: 4,
-        text: "error area dimm=0x00000001\n",
-    };
-    let second = Row {
-        line: "labels . 2",
-        status: 4,
-        text: "error area dimm=0x00000002\n",
-    };
-    let missing = "refused not-ready missing dimm=0x00000002\n";
-    let rows: [([u64; 2], u64, u64, Row); 12] = [
-        (
-            [9, 9],
-            64,
-            2,
-            Row {
-                status: 0,
-                text: listing,
-                ..first
-            },
-        ),
-        ([0, 9], 64, 1, first),
-        ([1, 9], 64, 2, first),
-        (
-            [2, 9],
-            64,
-            2,
-            Row {
-                status: 7,
-                text: "",
-                ..first
-            },
-        ),
-        (
-            [0, 1],
-            64,
-            1,
-            Row {
-                status: 7,
-                text: "",
-                ..first
-            },
-        ),
-        (
-            [1, 2],
-            64,
-            2,
-            Row {
-                status: 7,
-                text: "",
-                ..first
-            },
-        ),
-        (
-            [9, 9],
-            33,
-            2,
-            Row {
-                status: 7,
-                text: "",
-                ..first
-            },
-        ),
-        (
-            [9, 9],
-            34,
-            2,
-            Row {
-                status: 0,
-                text: listing,
-                ..first
-            },
-        ),
-        (
-            [9, 9],
-            64,
-            1,
-            Row {
-                status: 1,
-                text: missing,
-                ..second
-            },
-        ),
-        ([0, 9], 64, 1, second),
-        (
-            [1, 9],
-            64,
-            1,
-            Row {
-                status: 7,
-                text: "",
-                ..second
-            },
-        ),
-        (
-            [0, 9],
-            64,
-            0,
-            Row {
-                line: "labels",
-                status: 7,
-                text: "",
-            },
-        ),
-    ];
-    let area = small_area(
-        alloc,
-        &[
-            block(false, 3, ALL_FREE),
-            block(true, 2, ALL_FREE),
-            FREE,
-            FREE,
-        ],
-    )?;
-    for (listed, room, reads, row) in rows {
+    let area = initialised(alloc, FREE)?;
+    for (listed, room, reads, row) in FAULTS {
         let mut rig = MemoryRig::new(alloc, room)?;
         rig.add(1, area.clone()?)?;
         rig.fail_at(listed.to_vec(alloc)?);
         run_on(&rt, alloc, &mut rig, row)?;
-        assert_eq!(rt; rig.reads(), reads, "{}", row.line);
+        assert_eq!(rt; rig.reads(), reads);
         expect_area(&rt, &rig, &area)?;
     }
     Ok(())
 }
 
-const INITIALISE: Row<'static> = Row {
-    line: "do . init-labels dimm=1",
-    status: 0,
-    text: "ok initialised dimm=0x00000001 slots=2\n",
-};
-
 /// The bytes of an area of two slots that was initialised, with these bytes in its slots.
 fn initialised(alloc: Global, slots: [u8; 256]) -> Result<Vec<u8>, AllocError> {
-    small_area(
-        alloc,
-        &[
-            block(false, 3, ALL_FREE),
-            block(true, 2, ALL_FREE),
-            slots,
-            slots,
-        ],
-    )
+    let first = block(false, 3, ALL_FREE);
+    let second = block(true, 2, ALL_FREE);
+    small_area(alloc, &[first, second, slots, slots])
 }
+
+const AGAIN: [Row; 4] = [
+    INITIALISE,
+    Row(
+        "do . init-labels dimm=0x1",
+        1,
+        "refused already-ready dimm=0x00000001\n",
+    ),
+    Row("labels . 1", 0, EMPTY),
+    Row("do . # x", 0, ""),
+];
 
 /// An area of 1,024 bytes that is initialised, twice, and listed.
 #[test]
@@ -516,30 +319,10 @@ fn initialise(rt: HostRuntime) -> Result<(), Fail> {
     let mut rig = MemoryRig::new(alloc, 4096)?;
     rig.add(1, small_area(alloc, &[ZEROS; 4])?)?;
     rig.add(2, other.clone()?)?;
-    let rows = [
-        INITIALISE,
-        Row {
-            line: "do . init-labels dimm=0x1",
-            status: 1,
-            text: "refused already-ready dimm=0x00000001\n",
-        },
-        Row {
-            line: "labels . 1",
-            status: 0,
-            text: "ok labels=0 slots=2 seq=3 place=0\n",
-        },
-        Row {
-            line: "do . # x",
-            status: 0,
-            text: "",
-        },
-    ];
     let checksum = [0x33, 0x3a, 0x32, 0xd8, 0xa7, 0x83, 0x93, 0x27];
-    assert_eq!(rt;
-        block(false, 3, ALL_FREE).get(64..72),
-        Some(checksum.as_slice())
-    );
-    for row in rows {
+    let first = block(false, 3, ALL_FREE);
+    assert_eq!(rt; first.get(64..72), Some(checksum.as_slice()));
+    for row in AGAIN {
         run_on(&rt, alloc, &mut rig, row)?;
         expect_area(&rt, &rig, &initialised(alloc, ZEROS)?)?;
         assert_eq!(rt; rig.area(2).ok_or("no area")?, other.as_slice());
@@ -547,152 +330,171 @@ fn initialise(rt: HostRuntime) -> Result<(), Fail> {
     Ok(())
 }
 
-/// Areas that are not initialised. Their bytes stay as they are.
+/// An area that is not initialised keeps its bytes.
+fn refuse(rt: &impl Abort, alloc: Global, bytes: &[u8], row: Row) -> Result<(), Fail> {
+    let mut rig = rig_of(alloc, bytes)?;
+    run_on(rt, alloc, &mut rig, row)?;
+    expect_area(rt, &rig, bytes)
+}
+
 #[test]
 fn not_initialised(rt: HostRuntime) -> Result<(), Fail> {
     let alloc = rt.alloc();
-    let ready = block(true, 3, ALL_FREE);
-    let refused = Row {
-        status: 1,
-        ..INITIALISE
-    };
-    let rows = [
-        (
-            small_area(alloc, &[FREE, ready, FREE, FREE])?,
-            Row {
-                text: "refused already-ready dimm=0x00000001\n",
-                ..refused
-            },
-        ),
-        (
-            small_area(alloc, &[old_block(false, 2), FREE, FREE, FREE])?,
-            Row {
-                text: "refused not-ready foreign dimm=0x00000001\n",
-                ..refused
-            },
-        ),
-        (
-            vec![in alloc; 7; 1000]?,
-            Row {
-                text: "refused not-ready wrong-size dimm=0x00000001\n",
-                ..refused
-            },
-        ),
-        (
-            small_area(alloc, &[ZEROS; 4])?,
-            Row {
-                line: "do . init-labels dimm=0x101",
-                status: 1,
-                text: "refused not-ready missing dimm=0x00000101\n",
-            },
-        ),
-    ];
-    for (bytes, row) in rows {
-        let mut rig = rig_of(alloc, &bytes)?;
-        run_on(&rt, alloc, &mut rig, row)?;
-        expect_area(&rt, &rig, &bytes)?;
+    let line = "do . init-labels dimm=1";
+    let ready = small_area(alloc, &[FREE, block(true, 3, ALL_FREE), FREE, FREE])?;
+    let text = "refused already-ready dimm=0x00000001\n";
+    refuse(&rt, alloc, &ready, Row(line, 1, text))?;
+    let old = small_area(alloc, &[old_block(false, 2), FREE, FREE, FREE])?;
+    refuse(&rt, alloc, &old, Row(line, 1, FOREIGN))?;
+    let text = "refused not-ready wrong-size dimm=0x00000001\n";
+    refuse(&rt, alloc, &vec![in alloc; 7; 1000]?, Row(line, 1, text))?;
+    let zeros = small_area(alloc, &[ZEROS; 4])?;
+    let text = "refused not-ready missing dimm=0x00000101\n";
+    refuse(
+        &rt,
+        alloc,
+        &zeros,
+        Row("do . init-labels dimm=0x101", 1, text),
+    )?;
+    let text = "refused unknown-dimm dimm=0x00000002\n";
+    refuse(&rt, alloc, &zeros, Row("do . init-labels dimm=2", 1, text))
+}
+
+/// Lines that ask no area for anything: how they are refused, and the addresses of two modules with lines of 4,096 bytes.
+const LINES: [Row; 24] = [
+    Row("do . ", 0, ""),
+    Row("do . #", 0, ""),
+    Row("do . # init-labels dimm=1", 0, ""),
+    Row("do . init-label dimm=1", 1, "refused words unknown\n"),
+    Row("do . init-labels x", 1, "refused words key piece=1\n"),
+    Row(
+        "do . init-labels dimm=1 dimm=1",
+        1,
+        "refused words twice key=dimm\n",
+    ),
+    Row("do . init-labels", 1, "refused words missing key=dimm\n"),
+    Row(
+        "do . init-labels dimm=4294967296",
+        1,
+        "refused words value key=dimm\n",
+    ),
+    Row("do . init-labels dimm=\n", 1, "refused words byte at=17\n"),
+    Row("do . é", 1, "refused words byte at=0\n"),
+    Row("do .", 2, "error words\n"),
+    Row("do", 2, "error words\n"),
+    Row(
+        "do . init-labels dimm=0x2",
+        1,
+        "refused unknown-dimm dimm=0x00000002\n",
+    ),
+    Row(
+        "do . to-module region=1 spa=0x100003005",
+        0,
+        "ok dimm=0x00000101 dpa=0x0000000000001005\n",
+    ),
+    Row(
+        "do . to-module region=1 spa=0x2100000000",
+        1,
+        "refused outside\n",
+    ),
+    Row(
+        "do . to-module region=2 spa=0",
+        1,
+        "refused unknown-region region=2\n",
+    ),
+    Row(
+        "do . to-spa region=1 dimm=0x101 dpa=0x1005",
+        0,
+        "ok spa=0x0000000100003005\n",
+    ),
+    Row(
+        "do . to-spa region=1 dimm=0x101 dpa=0x2000",
+        0,
+        "ok spa=0x0000000100005000\n",
+    ),
+    Row(
+        "do . to-spa region=1 dimm=2 dpa=0",
+        1,
+        "refused not-in-region dimm=0x00000002\n",
+    ),
+    Row(
+        "do . to-spa region=1 dimm=1 dpa=0x1000000000",
+        1,
+        "refused outside\n",
+    ),
+    Row(
+        "do . to-spa region=7 dimm=2 dpa=0",
+        1,
+        "refused unknown-region region=7\n",
+    ),
+    Row(
+        "do . to-spa region=1 dpa=0",
+        1,
+        "refused words missing key=dimm\n",
+    ),
+    Row(
+        "do . to-runs region=1 spa=0x100001000 length=12K",
+        0,
+        "  run dimm=0x00000001 dpa=0x0000000000001000 length=4096\n  run dimm=0x00000101 dpa=0x0000000000000000 length=8192\nok runs=2\n",
+    ),
+    Row(
+        "do . to-runs region=1 spa=0x100000000 length=0",
+        1,
+        "refused outside\n",
+    ),
+];
+
+#[test]
+fn lines(rt: HostRuntime) -> Result<(), Fail> {
+    let alloc = rt.alloc();
+    for row in LINES {
+        run(&rt, alloc, &vec![in alloc; 0; 1024]?, row)?;
     }
     Ok(())
 }
 
-/// Lines that ask for nothing of the rig.
 #[test]
-fn lines(rt: HostRuntime) -> Result<(), Fail> {
+fn long_lines(rt: HostRuntime) -> Result<(), Fail> {
     let alloc = rt.alloc();
-    let rows = [
-        ("do . ", 0, ""),
-        ("do . #", 0, ""),
-        ("do . # init-labels dimm=1", 0, ""),
-        ("do . init-label dimm=1", 1, "refused words unknown\n"),
-        ("do . init-labels x", 1, "refused words key piece=1\n"),
-        (
-            "do . init-labels dimm=1 dimm",
-            1,
-            "refused words key piece=2\n",
-        ),
-        (
-            "do . init-labels dimm=1 dimm=1",
-            1,
-            "refused words twice key=dimm\n",
-        ),
-        ("do . init-labels", 1, "refused words missing key=dimm\n"),
-        (
-            "do . init-labels dimm=4294967296",
-            1,
-            "refused words value key=dimm\n",
-        ),
-        ("do . init-labels dimm=\n", 1, "refused words byte at=17\n"),
-        ("do . é", 1, "refused words byte at=0\n"),
-        ("do .", 2, "error words\n"),
-        ("do", 2, "error words\n"),
-    ];
-    for (line, status, text) in rows {
-        run(
-            &rt,
-            alloc,
-            &vec![in alloc; 0; 1024]?,
-            Row { line, status, text },
-        )?;
-    }
     let mut long = String::from_str(alloc, "do . #")?;
     for _ in 1..4096 {
         long.push('x')?;
     }
-    run(
-        &rt,
-        alloc,
-        &[],
-        Row {
-            line: long.as_str(),
-            status: 0,
-            text: "",
-        },
-    )?;
+    run(&rt, alloc, &[], Row(&long, 0, ""))?;
     long.push('x')?;
-    run(
-        &rt,
-        alloc,
-        &[],
-        Row {
-            line: long.as_str(),
-            status: 1,
-            text: "refused words too-long\n",
-        },
-    )
+    run(&rt, alloc, &[], Row(&long, 1, "refused words too-long\n"))
 }
 
-/// The call that fails while an area is initialised, and which of the two index blocks are written then. The calls are
-/// the area's size, three reads, two writes, and the reply.
+/// The call that fails while an area is initialised, the status, and which of the two index blocks are written then. The
+/// calls are the area's size, three reads, two writes, and the reply.
+const STOPS: [(u64, u8, [bool; 2]); 8] = [
+    (0, 4, [false, false]),
+    (1, 4, [false, false]),
+    (2, 4, [false, false]),
+    (3, 4, [false, false]),
+    (4, 4, [false, false]),
+    (5, 4, [true, false]),
+    (6, 7, [true, true]),
+    (7, 0, [true, true]),
+];
+
 #[test]
 fn faults_of_init(rt: HostRuntime) -> Result<(), Fail> {
     let alloc = rt.alloc();
-    let failed = Row {
-        status: 4,
-        text: "error area dimm=0x00000001\n",
-        ..INITIALISE
-    };
-    let rows = [
-        (0, failed, [false, false]),
-        (1, failed, [false, false]),
-        (2, failed, [false, false]),
-        (3, failed, [false, false]),
-        (4, failed, [false, false]),
-        (5, failed, [true, false]),
-        (
-            6,
-            Row {
-                status: 7,
-                text: "",
-                ..INITIALISE
-            },
-            [true, true],
-        ),
-        (7, INITIALISE, [true, true]),
-    ];
-    for (call, row, written) in rows {
+    for (call, status, written) in STOPS {
         let mut rig = rig_of(alloc, &small_area(alloc, &[FREE; 4])?)?;
         rig.fail_at(vec![in alloc; call]?);
-        run_on(&rt, alloc, &mut rig, row)?;
+        let text = match status {
+            4 => AREA_FAILED,
+            7 => "",
+            _ => "ok initialised dimm=0x00000001 slots=2\n",
+        };
+        run_on(
+            &rt,
+            alloc,
+            &mut rig,
+            Row("do . init-labels dimm=1", status, text),
+        )?;
         let first = if written[0] {
             block(false, 3, ALL_FREE)
         } else {
@@ -714,186 +516,107 @@ fn nothing_said(rt: HostRuntime) -> Result<(), Fail> {
     let alloc = rt.alloc();
     let mut rig = MemoryRig::new(alloc, 0)?;
     rig.fail_at(vec![in alloc; 0]?);
-    run_on(
-        &rt,
-        alloc,
-        &mut rig,
-        Row {
-            line: "do . # x",
-            status: 0,
-            text: "",
-        },
-    )?;
+    run_on(&rt, alloc, &mut rig, Row("do . # x", 0, ""))?;
     assert_eq!(rt; rig.say_faults(), 0);
     Ok(())
 }
 
-/// The bytes of an NFIT, and what is said of a line that would initialise an area. Where it is refused, the area stays
-/// as it is.
+/// Runs `init-labels` on a platform with this NFIT, which is refused. The area stays as it is.
+fn refuse_table(rt: &impl Abort, alloc: Global, nfit: Vec<u8>, text: &str) -> Result<(), Fail> {
+    let mut rig = rig_of(alloc, &small_area(alloc, &[ZEROS; 4])?)?;
+    let mut source = MemorySource::new(nfit, Vec::new(alloc));
+    let row = Row("do . init-labels dimm=1", 3, text);
+    run_with(rt, alloc, &mut rig, &mut source, row)?;
+    expect_area(rt, &rig, &small_area(alloc, &[ZEROS; 4])?)
+}
+
+/// The table of two modules with another byte.
+fn changed(alloc: Global, at: usize, value: u8) -> Result<Vec<u8>, AllocError> {
+    let mut table = nfit(alloc, &two_modules(alloc)?)?;
+    if let Some(byte) = table.get_mut(at) {
+        *byte = value;
+    }
+    Ok(table)
+}
+
+/// The table of two modules without the bytes from an offset on.
+fn cut(alloc: Global, len: usize) -> Result<Vec<u8>, AllocError> {
+    let mut table = nfit(alloc, &two_modules(alloc)?)?;
+    table.truncate(len);
+    Ok(table)
+}
+
+#[test]
+fn headers(rt: HostRuntime) -> Result<(), Fail> {
+    let alloc = rt.alloc();
+    refuse_table(&rt, alloc, cut(alloc, 39)?, "error nfit short length=39\n")?;
+    refuse_table(&rt, alloc, cut(alloc, 0)?, "error nfit short length=0\n")?;
+    let text = "error nfit length told=280 length=279\n";
+    refuse_table(&rt, alloc, cut(alloc, 279)?, text)?;
+    let zeros = vec![in alloc; 0; 40]?;
+    refuse_table(&rt, alloc, zeros, "error nfit signature\n")?;
+    let other = changed(alloc, 8, 2)?;
+    refuse_table(&rt, alloc, other, "error nfit revision value=2\n")
+}
+
 #[test]
 fn tables(rt: HostRuntime) -> Result<(), Fail> {
     let alloc = rt.alloc();
-    let structures = two_modules(alloc)?;
-    let whole = nfit(alloc, &structures)?;
-    assert_eq!(rt; whole.len(), 280);
-    let mut short = whole.clone()?;
-    short.truncate(39);
-    let mut cut = whole.clone()?;
-    cut.truncate(279);
-    let mut raised = whole.clone()?;
-    raised[9] = raised[9].wrapping_add(1);
-    let mut other_revision = whole.clone()?;
-    other_revision[8] = 2;
-    let mut twice = structures.clone()?;
-    twice.extend_from_slice(&structures)?;
-    let rows = [
-        (whole.clone()?, ""),
-        (nfit(alloc, &[])?, ""),
-        (nfit(alloc, &[9, 0, 6, 0, 1, 2])?, ""),
-        (short, "error nfit short length=39\n"),
-        (Vec::new(alloc), "error nfit short length=0\n"),
-        (vec![in alloc; 0; 40]?, "error nfit signature\n"),
-        (cut, "error nfit length told=280 length=279\n"),
-        (other_revision, "error nfit revision value=2\n"),
-        (raised, "error nfit checksum sum=1\n"),
-        (nfit(alloc, &[0; 4])?, "error nfit structure at=40\n"),
-        (
-            nfit(alloc, &twice)?,
-            "error nfit twice-index kind=0 index=1\n",
-        ),
-    ];
-    for (bytes, refused) in rows {
-        let mut rig = rig_of(alloc, &small_area(alloc, &[ZEROS; 4])?)?;
-        let mut source = MemorySource::new(bytes, Vec::new(alloc));
-        if refused.is_empty() {
-            run_with(&rt, alloc, &mut rig, &mut source, INITIALISE)?;
-            expect_area(&rt, &rig, &initialised(alloc, ZEROS)?)?;
-        } else {
-            run_with(
-                &rt,
-                alloc,
-                &mut rig,
-                &mut source,
-                Row {
-                    status: 3,
-                    text: refused,
-                    ..INITIALISE
-                },
-            )?;
-            expect_area(&rt, &rig, &small_area(alloc, &[ZEROS; 4])?)?;
-        }
-    }
-    Ok(())
+    let checksum = nfit(alloc, &two_modules(alloc)?)?[9];
+    let raised = changed(alloc, 9, checksum.wrapping_add(1))?;
+    refuse_table(&rt, alloc, raised, "error nfit checksum sum=1\n")?;
+    let misshapen = nfit(alloc, &[0; 4])?;
+    refuse_table(&rt, alloc, misshapen, "error nfit structure at=40\n")?;
+    let mut twice = two_modules(alloc)?;
+    twice.extend_from_slice(&two_modules(alloc)?)?;
+    let text = "error nfit twice-index kind=0 index=1\n";
+    refuse_table(&rt, alloc, nfit(alloc, &twice)?, text)
 }
+
+const SOURCE_FAILED: Row<'static> = Row("do . init-labels dimm=1", 5, "error source nfit\n");
 
 /// The read of the source that fails, the call of the rig that fails, how often the source failed, and what is said.
 /// The NFIT has 280 bytes, which are read by two calls.
+const SOURCES: [(u64, u64, u64, Row); 9] = [
+    (0, 9, 1, SOURCE_FAILED),
+    (1, 9, 1, SOURCE_FAILED),
+    (0, 0, 1, Row("do . init-labels dimm=1", 7, "")),
+    (2, 9, 0, INITIALISE),
+    (2, 0, 0, Row("do . init-labels dimm=1", 4, AREA_FAILED)),
+    (0, 9, 1, Row("do . # x", 5, "error source nfit\n")),
+    (1, 9, 1, Row("do . x", 5, "error source nfit\n")),
+    (0, 9, 0, Row("do .", 2, "error words\n")),
+    (0, 9, 0, Row("labels . 1", 1, UNINIT)),
+];
+
 #[test]
 fn faults_of_the_source(rt: HostRuntime) -> Result<(), Fail> {
     let alloc = rt.alloc();
-    let failed = Row {
-        status: 5,
-        text: "error source nfit\n",
-        ..INITIALISE
-    };
-    let rows = [
-        (0, 9, 1, failed),
-        (1, 9, 1, failed),
-        (
-            0,
-            0,
-            1,
-            Row {
-                status: 7,
-                text: "",
-                ..INITIALISE
-            },
-        ),
-        (2, 9, 0, INITIALISE),
-        (
-            2,
-            0,
-            0,
-            Row {
-                status: 4,
-                text: "error area dimm=0x00000001\n",
-                ..INITIALISE
-            },
-        ),
-        (
-            0,
-            9,
-            1,
-            Row {
-                line: "do . # x",
-                ..failed
-            },
-        ),
-        (
-            1,
-            9,
-            1,
-            Row {
-                line: "do . x",
-                ..failed
-            },
-        ),
-        (
-            0,
-            9,
-            0,
-            Row {
-                line: "do .",
-                status: 2,
-                text: "error words\n",
-            },
-        ),
-        (
-            0,
-            9,
-            0,
-            Row {
-                line: "labels . 1",
-                status: 1,
-                text: "refused not-ready uninit dimm=0x00000001\n",
-            },
-        ),
-    ];
-    for (read, call, faults, row) in rows {
+    for (read, call, faults, row) in SOURCES {
         let mut rig = rig_of(alloc, &small_area(alloc, &[ZEROS; 4])?)?;
         rig.fail_at(vec![in alloc; call]?);
         let bytes = nfit(alloc, &two_modules(alloc)?)?;
         let mut source = MemorySource::new(bytes, vec![in alloc; read]?);
         run_with(&rt, alloc, &mut rig, &mut source, row)?;
-        assert_eq!(rt; source.faults(), faults, "{}", row.line);
+        assert_eq!(rt; source.faults(), faults);
     }
     Ok(())
 }
 
 /// How many bytes the source has, and what is said of them.
+const LIMITS: [(usize, u8, &str); 3] = [
+    (1_048_576, 3, "error nfit signature\n"),
+    (1_048_577, 5, "error limit nfit\n"),
+    (1_100_000, 5, "error limit nfit\n"),
+];
+
 #[test]
 fn limit_of_the_source(rt: HostRuntime) -> Result<(), Fail> {
     let alloc = rt.alloc();
-    let limit = Row {
-        status: 5,
-        text: "error limit nfit\n",
-        ..INITIALISE
-    };
-    let rows = [
-        (
-            1_048_576,
-            Row {
-                status: 3,
-                text: "error nfit signature\n",
-                ..INITIALISE
-            },
-        ),
-        (1_048_577, limit),
-        (1_100_000, limit),
-    ];
-    for (size, row) in rows {
+    for (size, status, text) in LIMITS {
         let mut rig = MemoryRig::new(alloc, 64)?;
         let mut source = MemorySource::new(vec![in alloc; 0; size]?, Vec::new(alloc));
+        let row = Row("do . init-labels dimm=1", status, text);
         run_with(&rt, alloc, &mut rig, &mut source, row)?;
     }
     Ok(())

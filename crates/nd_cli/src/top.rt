@@ -1,23 +1,25 @@
 //! One run, from the words to what is said and the status.
 
 ghost use Rattle.std.specs.Prelude.{◌≡◌, Some, false};
-ghost use Rattle.rig_trait.specs.Frames.{GoesOn, Reads, SaysNothing};
-ghost use Rattle.nd_cli.specs.Outcomes.{AsksNothing, ComesTo, Ends, IsUnread, LeavesSaid, LeavesUnsaid, NeedsNfit, RefusesNfit, Tells, fault_status, may_have_written, outcome_of};
+ghost use Rattle.rig_trait.specs.Frames.{GoesOn, Reads};
+ghost use Rattle.nd_cli.specs.Outcomes.{AsksNothing, ComesUnsaid, Ends, IsUnread, NeedsNfit, RefusesNfit, Tells, TellsReply, fault_status, may_have_written, outcome_of};
 ghost use Rattle.nd_cli.specs.Statuses.{code_of};
-ghost use Rattle.nd_cli.specs.Stops.{named_by};
 ghost use Rattle.nd_cli.specs.Texts.{fault_line};
 ghost use Rattle.nd_cli.specs.Words.{Line, asked};
 
-use crate::commands::{labels, run_line};
+use crate::answers::{Answer, reply_status};
+use crate::commands::do_task;
 use crate::faults::Fault;
-use crate::listing::listing;
-use crate::replies::Reply;
 use crate::statuses::Status;
-use crate::tables::read_table;
-use crate::texts::{fault_line, initialised_line, refusal_text};
+use crate::tables::read_platform;
+use crate::tasks::Task;
+use crate::texts::fault_line;
 use crate::words::Request;
+use label_listing::listing;
+use report_json::{line_of, reply_text};
 use rig_trait::{Failed, Rig, Source};
 use std::alloc::Global;
+use view_types::Reply;
 
 /// Runs the command line that the words are, and says its one text: the reply, or an error line. A blank line and a
 /// comment, as the line of `do`, have no reply. The form `do` reads the NFIT first, and `labels` reads none.
@@ -28,7 +30,6 @@ use std::alloc::Global;
 /// whole. The first fault ends the run.
 pub fn nd_top<R: Rig, N: Source>(alloc: Global, words: &[String], rig: &mut R, nfit: &mut N) -> u8
     ensures ends { Ends R.Shown N.Source (asked words.now) rig.old rig.new nfit.old nfit.new result }
-    ensures any_moment { LeavesSaid R.Shown (named_by (asked words.now)) rig.old rig.new }
 
     // The NFIT is read first, and only for a line; where it is not accepted, no area is asked for anything.
     ensures nfit_first { RefusesNfit N.Source (asked words.now) nfit.old → AsksNothing R.Shown rig.old rig.new }
@@ -37,17 +38,12 @@ pub fn nd_top<R: Rig, N: Source>(alloc: Global, words: &[String], rig: &mut R, n
     ensures goes_on { GoesOn R.Shown rig.old rig.new }
 {
     match run(alloc, words, rig, nfit) {
-        Ok(None) => Status::Ok.code(),
-        Ok(Some(Reply::Labels(area))) => match listing(alloc, &area) {
+        Ok(Answer::Labels(area)) => match listing(alloc, &area) {
             Ok(text) => say(rig, text.as_bytes(), Status::Ok),
             Err(_) => say_fault(rig, Fault::Memory),
         },
-        Ok(Some(Reply::Initialised { dimm, slots })) => {
-            say(rig, initialised_line(dimm, slots).as_bytes(), Status::Ok)
-        }
-        Ok(Some(Reply::Refused(refusal))) => {
-            say(rig, refusal_text(refusal).as_bytes(), Status::Refused)
-        }
+        Ok(Answer::Reply(None)) => Status::Ok.code(),
+        Ok(Answer::Reply(Some(reply))) => say_reply(alloc, rig, &reply),
         Err(fault) => say_fault(rig, fault),
     }
 }
@@ -58,17 +54,16 @@ fn run<R: Rig, N: Source>(
     words: &[String],
     rig: &mut R,
     nfit: &mut N,
-) -> Result<Option<Reply>, Fault>
-    ensures came { ComesTo R.Shown N.Source (asked words.now) rig.old rig.new nfit.old nfit.new (outcome_of result) }
-    ensures any_moment { LeavesUnsaid R.Shown (named_by (asked words.now)) rig.old rig.new }
+) -> Result<Answer, Fault>
+    ensures came { ComesUnsaid R.Shown N.Source (asked words.now) rig.old rig.new nfit.old nfit.new
+        (outcome_of result) }
     ensures nfit_first { RefusesNfit N.Source (asked words.now) nfit.old → AsksNothing R.Shown rig.old rig.new }
     ensures unread { ¬ NeedsNfit (asked words.now) → IsUnread N.Source nfit.old nfit.new }
     ensures unwritten { may_have_written result ≡ false → Reads R.Shown rig.old rig.new }
-    ensures says_nothing { SaysNothing R.Shown rig.old rig.new }
 {
     match Request::of(alloc, words)? {
         None => Err(Fault::Words),
-        Some(Request::Labels { dimm }) => labels(alloc, rig, dimm),
+        Some(Request::Labels { dimm }) => do_task(alloc, rig, Task::Labels { dimm }),
         Some(Request::Line(line)) => do_line(alloc, &line, rig, nfit),
     }
 }
@@ -79,16 +74,31 @@ fn do_line<R: Rig, N: Source>(
     line: &str,
     rig: &mut R,
     nfit: &mut N,
-) -> Result<Option<Reply>, Fault>
-    ensures came { ComesTo R.Shown N.Source (Some (Line line.now)) rig.old rig.new nfit.old nfit.new
+) -> Result<Answer, Fault>
+    ensures came { ComesUnsaid R.Shown N.Source (Some (Line line.now)) rig.old rig.new nfit.old nfit.new
         (outcome_of result) }
-    ensures any_moment { LeavesUnsaid R.Shown (named_by (Some (Line line.now))) rig.old rig.new }
     ensures nfit_first { RefusesNfit N.Source (Some (Line line.now)) nfit.old → AsksNothing R.Shown rig.old rig.new }
     ensures unwritten { may_have_written result ≡ false → Reads R.Shown rig.old rig.new }
-    ensures says_nothing { SaysNothing R.Shown rig.old rig.new }
 {
-    read_table(alloc, nfit)?;
-    run_line(rig, line)
+    let platform = match read_platform(alloc, nfit) {
+        Ok(platform) => platform,
+        Err(fault) => return Err(fault),
+    };
+    let task = Task::of_line(alloc, &platform, line)?;
+    do_task(alloc, rig, task)
+}
+
+/// Says a reply. Memory is taken for that of a list alone.
+fn say_reply<R: Rig>(alloc: Global, rig: &mut R, reply: &Reply) -> u8
+    ensures { TellsReply R.Shown rig.old rig.new reply.now result }
+{
+    if let Some(line) = line_of(reply) {
+        return say(rig, line.as_bytes(), reply_status(reply));
+    }
+    match reply_text(alloc, reply) {
+        Ok(text) => say(rig, &text, reply_status(reply)),
+        Err(_) => say_fault(rig, Fault::Memory),
+    }
 }
 
 /// Says the line of a fault.

@@ -1,11 +1,12 @@
 //! The words of a command line.
 
-ghost use Rattle.std.specs.Prelude.{◌≡◌, ◌^◌, ◌++◌, ◌≤◌, IfOk, IsErr, IsSome, slice_get};
+ghost use Rattle.std.specs.Prelude.{◌≡◌, ◌++◌, IfOk, IsErr, IsSome, slice_get};
 ghost use Rattle.std.specs.Option.{option_copied, option_map};
 ghost use Rattle.std.specs.List.{after_first, before_first};
 ghost use Rattle.std.specs.String.{string_bytes};
-ghost use Rattle.nd_cli.specs.Words.{asked, asked_in, below, dir_of, do_form, form_in, handle, is_dashes, is_option, labels_form, line_of, numeral, operands_form};
+ghost use Rattle.nd_cli.specs.Words.{asked, asked_in, dir_of, do_form, form_in, handle, is_dashes, is_option, labels_form, line_of, operands_form};
 
+use cmd_words::read_number;
 use std::alloc::{AllocError, Global};
 
 /// What the words of a run ask for.
@@ -128,27 +129,14 @@ fn labels(front: &[String], back: &[String]) -> Option<Form>
     Some(Form::Labels { dimm })
 }
 
-/// A device handle: a number below 2^32, as 1 to 20 decimal digits, or `0x` and 1 to 16 hexadecimal ones of either
-/// case.
-pub(crate) fn read_handle(text: &str) -> Option<u32>
+/// A device handle: a number below 2^32.
+fn read_handle(text: &str) -> Option<u32>
     ensures { result ≡ handle text.now }
 {
-    match text.strip_prefix("0x") {
-        Some(digits) => read_numeral(digits, 16, 16),
-        None => read_numeral(text, 10, 20),
+    match read_number(text) {
+        Some(number) if number <= u64::from(u32::MAX) => Some(number as u32),
+        _ => None,
     }
-}
-
-/// The number below 2^32 that 1 to `most` digits of a base write.
-fn read_numeral(digits: &str, base: u32, most: usize) -> Option<u32>
-    requires low { 2 ≤ base }
-    requires high { base ≤ 16 }
-    ensures { result ≡ below (2 ^ 32) (numeral base most digits.now) }
-{
-    if digits.len() > most || !digits.bytes().all(|digit| char::from(digit).is_digit(base)) {
-        return None;
-    }
-    u32::from_str_radix(digits, base).ok()
 }
 
 #[cfg(test)]

@@ -7,8 +7,8 @@ use Rattle.nd_cli.proofs.Unsaid.{LeftUnsaid-init}
 use Rattle.nd_cli.proofs.commands.init_labels.Goals as goal
 
 pub returns-in-Ok-clause-does : goal.returns-in-Ok-clause-does
-returns-in-Ok-clause-does g c line is =
-    init_accepted g.R.Shown c.args.dimm c.args.rig.now c.init.new.rig c.in-Ok.slots line is c.in-Ok.ensures.cause c.in-Ok.ensures.answer c.in-Ok.ensures.written c.init.ensures.writes_only c.init.ensures.kept
+returns-in-Ok-clause-does g c =
+    init_accepted g.R.Shown c.args.dimm c.args.rig.now c.init.new.rig c.in-Ok.slots c.in-Ok.ensures.cause c.in-Ok.ensures.answer c.in-Ok.ensures.written c.init.ensures.writes_only c.init.ensures.kept
 
 pub returns-in-Ok-clause-any_moment : goal.returns-in-Ok-clause-any_moment
 returns-in-Ok-clause-any_moment g c told =
