@@ -67,8 +67,8 @@ pub fn to_spa(
     }
 }
 
-/// The runs of module addresses (DPA) behind a range of system physical addresses (SPA) of a region: `length` bytes, from
-/// `spa` on.
+/// The runs of module addresses (DPA) behind a range of system physical addresses (SPA) of a region: `length` bytes,
+/// from `spa` on.
 ///
 /// Refused are, in this order, a region that the platform does not have, one that cannot be used or whose addresses
 /// cannot be translated, and a range that is empty or does not lie in the region's.

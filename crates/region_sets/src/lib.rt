@@ -20,6 +20,3 @@ pub use held::{held_labels, spare};
 pub use modules::{LoadedModule, ModuleArea};
 pub use region::RegionLabels;
 pub use statuses::unready_state;
-
-#[cfg(test)]
-mod tests;

@@ -1,8 +1,0 @@
-use super::*;
-use std::test::Fail;
-
-#[test]
-fn nothing(rt: HostRuntime) -> Result<(), Fail> {
-    assert!(rt; 1 < 2);
-    Ok(())
-}
