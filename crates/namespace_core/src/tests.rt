@@ -1,3 +1,6 @@
+ghost use Rattle.std.specs.Prelude.{IfOk};
+ghost use Rattle.region_map.specs.Platforms.{IsSound};
+
 use super::*;
 use nfit_tables::read_nfit;
 use region_map::Platform;
@@ -7,11 +10,19 @@ use test_areas::{nfit, two_modules};
 use view_types::{Refusal, Reply};
 
 /// The platform of two modules with lines of 4,096 bytes.
-fn platform(alloc: Global) -> Result<Platform, &'static str> {
+fn platform(alloc: Global) -> Result<Platform, &'static str>
+    ensures { IfOk result IsSound }
+{
     let structures = two_modules(alloc).ok().ok_or("no memory")?;
     let bytes = nfit(alloc, &structures).ok().ok_or("no memory")?;
-    let table = read_nfit(alloc, &bytes).ok().ok_or("no table")?;
-    Platform::of(alloc, &table).ok().ok_or("no memory")
+    let table = match read_nfit(alloc, &bytes) {
+        Ok(table) => table,
+        Err(_) => return Err("no table"),
+    };
+    match Platform::of(alloc, &table) {
+        Ok(platform) => Ok(platform),
+        Err(_) => Err("no memory"),
+    }
 }
 
 #[test]
