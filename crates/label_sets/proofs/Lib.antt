@@ -3,3 +3,4 @@ pub mod Standing
 pub mod Platforms
 pub mod Frees
 pub mod Viewed
+pub mod FreeRoom

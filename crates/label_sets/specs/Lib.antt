@@ -3,3 +3,4 @@ pub mod Codes
 pub mod Sets
 pub mod Kept
 pub mod Views
+pub mod Largest

@@ -1,2 +1,4 @@
 pub mod Firsts
 pub mod Parts
+pub mod Unread
+pub mod ListedSpaces
