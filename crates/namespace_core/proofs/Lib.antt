@@ -2,3 +2,4 @@ pub mod Firsts
 pub mod Parts
 pub mod Unread
 pub mod ListedSpaces
+pub mod HeldLists

@@ -16,8 +16,11 @@ use Rattle.label_table.specs.Statuses as statuses
 use Rattle.label_table.specs.Statuses.{RegionReady, RegionStatus, first_not_ready, status, status_by, status_by_area, status_by_clash}
 use Rattle.region_sets.specs.Statuses.{shown_status}
 use Rattle.label_sets.specs.Sets.{StoredSets, labels_in, platform_in}
-use Rattle.label_sets.specs.Views.{IsRegionView, IsViewOf}
-use Rattle.namespace_core.specs.Lists.{IsReadyView, IsStateOf, not_ready_by, refusal_by, unread}
+use Rattle.label_sets.specs.Largest.{IsLargestOf, TellsLargest}
+use Rattle.label_sets.specs.Views.{IsRegionView, IsViewOf, ShowsFree}
+use Rattle.label_table.specs.Division.{AreFreeExtents}
+use Rattle.view_types.specs.declared.reply.Reply.TheVariants.{Free}
+use Rattle.namespace_core.specs.Lists.{IsFree, IsReadyView, IsStateOf, not_ready_by, refusal_by, unread}
 use Rattle.namespace_core.specs.Refusals.{first_of}
 
 -- the refusals behind that of an unknown region are those of the status
@@ -95,3 +98,14 @@ module _ (platform : Platform) (sets : StoredSets) (index : ℕ) (state : IsStat
         ready = ready-is (status (labels_in sets) known.region) unrefused;
         is_view = known.shows;
       }
+
+  -- the free extents of a region that is Ready
+  pub free_is : (view : RegionView) → IsReadyView platform (labels_in sets) index view → (size : ℕ) → TellsLargest sets index (Some size) → IsFree platform (labels_in sets) index (Free view.free size)
+  free_is view ready size tells =
+      let region = ready.region in
+      let labels = labels_in sets in
+      let found : region_at (platform_in sets) index ≡ Some region = same_region ∙ ready.found in
+      let extents : AreFreeExtents platform labels region view.free = subst (λ s. ShowsFree platform labels region s view.free) ready.ready ready.is_view.free_are in
+      let most : IsLargestOf (platform_in sets) labels (Some region) (Some size) = subst (λ r. IsLargestOf (platform_in sets) labels r (Some size)) found tells in
+      let mine : AreFreeExtents (platform_in sets) labels region view.free = rw state.regions extents in
+      rw ready.unrefused (record { region = region; found = ready.found; extents = view.free; extents_are = extents; reply_is = ap (Free view.free) (most view.free mine) })
