@@ -1,5 +1,6 @@
 pub mod Loads
 pub mod Codes
 pub mod Sets
+pub mod Room
 pub mod Kept
 pub mod Views

@@ -3,6 +3,7 @@
 
 mod load;
 mod read;
+mod room;
 mod sets;
 mod views;
 
