@@ -4,6 +4,7 @@
 mod largest;
 mod load;
 mod read;
+mod room;
 mod sets;
 mod views;
 
