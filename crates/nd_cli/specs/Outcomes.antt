@@ -6,6 +6,8 @@ use Rattle.rig_trait.specs.Faults.{counted}
 use Rattle.rig_trait.specs.Frames.{IsTold, LeavesOnly, SayLeaves, SaysNothing, SaysOnly}
 use Rattle.rig_trait.specs.Sources.{Draws, TellsLeft}
 use Rattle.cmd_words.specs.Lines.{command_in}
+use Rattle.label_sets.specs.declared.load.SetFault.{SetFault}
+use Rattle.label_sets.specs.declared.load.SetFault.TheVariants as sets
 use Rattle.module_labels.specs.Labels as labels
 use Rattle.namespace_core.specs.declared.lists.Query.{Query}
 use Rattle.namespace_core.specs.Lists.{IsShown}
@@ -40,6 +42,11 @@ abbrev pub outcome_of : Result Answer Fault → Outcome
 outcome_of (Ok (answers.Labels area)) = Replies true (loaded_listing area)
 outcome_of (Ok (answers.Reply reply)) = Replies (is_accepted_if reply) (text_if reply)
 outcome_of (Err fault) = Fails fault
+
+-- why the state of a platform's modules is not read
+abbrev pub fault_by : SetFault → Fault
+fault_by (sets.Failed dimm) = Area dimm
+fault_by sets.Memory = Memory
 
 abbrev pub fault_status : Fault → ℕ
 fault_status Words = 2

@@ -3,7 +3,7 @@
 ghost use Rattle.std.specs.Prelude.{◌≡◌, false};
 ghost use Rattle.rig_trait.specs.Frames.{Reads, SaysNothing};
 ghost use Rattle.nd_cli.specs.declared.tasks.Task.TheVariants.{Labels, Initialise, Show};
-ghost use Rattle.nd_cli.specs.Outcomes.{Does, LeavesUnsaid, may_have_written, outcome_of};
+ghost use Rattle.nd_cli.specs.Outcomes.{Does, LeavesUnsaid, fault_by, may_have_written, outcome_of};
 ghost use Rattle.nd_cli.specs.Stops.{named};
 ghost use Rattle.nd_cli.specs.Tasks.{IsSoundTask};
 ghost use Rattle.region_map.specs.Platforms.{IsSound};
@@ -81,9 +81,18 @@ fn show_state<R: Rig>(
 {
     let sets = match read_state(alloc, platform, rig) {
         Ok(sets) => sets,
-        Err(SetFault::Failed { dimm }) => return Err(Fault::Area { dimm }),
-        Err(SetFault::Memory) => return Err(Fault::Memory),
+        Err(fault) => return Err(fault_by(fault)),
     };
     let reply = show(alloc, platform, &sets, query)?;
     Ok(Answer::Reply(Some(reply)))
+}
+
+/// Why the state of a platform's modules is not read.
+fn fault_by(fault: SetFault) -> Fault
+    ensures { result ≡ fault_by fault }
+{
+    match fault {
+        SetFault::Failed { dimm } => Fault::Area { dimm },
+        SetFault::Memory => Fault::Memory,
+    }
 }
