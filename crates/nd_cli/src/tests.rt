@@ -32,6 +32,9 @@ const FOREIGN: &str = "refused not-ready foreign dimm=0x00000001\n";
 
 const AREA_FAILED: &str = "error area dimm=0x00000001\n";
 
+const REGIONS: &str =
+    "  region index=1 spa=0x0000000100000000 size=137438953472 ways=2 cookie=0x0002e2420000346b status=missing dimm=0x00000101\nok regions=1\n";
+
 /// The words of a command line without quotes.
 fn words(alloc: Global, line: &str) -> Result<Vec<String>, AllocError> {
     let mut words = Vec::new(alloc);
@@ -249,7 +252,7 @@ fn words_and_sizes(rt: HostRuntime) -> Result<(), Fail> {
 }
 
 /// The calls that fail, the room, how often the rig is read, and what is said.
-const FAULTS: [([u64; 2], u64, u64, Row); 12] = [
+const FAULTS: [([u64; 2], u64, u64, Row); 19] = [
     ([9, 9], 64, 2, Row("labels . 1", 0, EMPTY)),
     ([0, 9], 64, 1, Row("labels . 1", 4, AREA_FAILED)),
     ([1, 9], 64, 2, Row("labels . 1", 4, AREA_FAILED)),
@@ -276,6 +279,32 @@ const FAULTS: [([u64; 2], u64, u64, Row); 12] = [
     ),
     ([1, 9], 64, 1, Row("labels . 2", 7, "")),
     ([0, 9], 64, 0, Row("labels", 7, "")),
+    ([9, 9], 256, 3, Row("do . list-regions", 0, REGIONS)),
+    ([0, 9], 64, 1, Row("do . list", 4, AREA_FAILED)),
+    ([1, 9], 64, 2, Row("do . list-held dimm=1", 4, AREA_FAILED)),
+    (
+        [2, 9],
+        64,
+        3,
+        Row("do . list-free region=1", 4, "error area dimm=0x00000101\n"),
+    ),
+    (
+        [9, 9],
+        64,
+        3,
+        Row(
+            "do . list region=1",
+            1,
+            "refused not-ready missing dimm=0x00000101\n",
+        ),
+    ),
+    (
+        [9, 9],
+        64,
+        3,
+        Row("do . list-held dimm=1", 0, "ok held=0 spare=2\n"),
+    ),
+    ([3, 9], 64, 3, Row("do . list", 7, "")),
 ];
 
 #[test]
