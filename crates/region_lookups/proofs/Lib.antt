@@ -3,3 +3,4 @@ pub mod Counted
 pub mod Neighbours
 pub mod Standing
 pub mod Unready
+pub mod Pendings

@@ -1,9 +1,10 @@
 //! The namespaces of a region that have a name.
 
-ghost use Rattle.std.specs.Prelude.{◌≡◌};
+ghost use Rattle.std.specs.Prelude.{◌≡◌, find};
 ghost use Rattle.region_sets.specs.Modules.{labels_in};
 ghost use Rattle.region_sets.specs.Regions.{IsOver};
 ghost use Rattle.region_lookups.specs.Named.{named_in};
+ghost use Rattle.region_lookups.specs.Spaces.{has_name_beside, listed_spaces};
 
 use crate::tallies::{Sought, tally_of};
 use region_sets::{LoadedModule, RegionLabels};
@@ -37,4 +38,21 @@ pub fn namespace_named(modules: &[LoadedModule], kept: &RegionLabels, name: &[u8
             }
         }
     }
+}
+
+/// The first namespace of the region with this name and another uuid, by offset and then by uuid. `None` exactly where
+/// there is none.
+pub fn other_named(
+    modules: &[LoadedModule],
+    kept: &RegionLabels,
+    name: &[u8; 64],
+    uuid: &[u8; 16],
+) -> Option<Namespace>
+    requires { IsOver modules.now kept.now }
+    ensures { result ≡
+        find (has_name_beside name.now uuid.now) (listed_spaces (labels_in modules.now) kept.now.region) }
+{
+    let name = *name;
+    let uuid = *uuid;
+    tally_of(modules, kept, &Sought::NamedBeside { name, uuid }).first
 }

@@ -19,6 +19,8 @@ use view_types::Namespace;
 pub(crate) enum Sought {
     All,
     Named { name: [u8; 64] },
+    /// Those with this name, but the one with this uuid.
+    NamedBeside { name: [u8; 64], uuid: [u8; 16] },
     Pending,
     /// Those that stand behind this one, by offset and then by uuid.
     After { last: Namespace },
@@ -111,6 +113,7 @@ impl Sought {
         match self {
             Sought::All => true,
             Sought::Named { name } => has_name(name, space),
+            Sought::NamedBeside { name, uuid } => has_name(name, space) && *uuid != space.uuid,
             Sought::Pending => space.pending,
             Sought::After { last } => is_before(last, space),
         }
