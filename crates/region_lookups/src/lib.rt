@@ -15,3 +15,6 @@ pub use named::{Named, namespace_named, other_named};
 pub use pending::first_pending;
 pub use positions::{Short, first_without_spare, free_slots_at, spare_at};
 pub use statuses::status;
+
+#[cfg(test)]
+mod tests;
