@@ -11,7 +11,7 @@ use Rattle.region_sets.specs.declared.modules.LoadedModule.{LoadedModule}
 use Rattle.region_sets.specs.declared.modules.ModuleArea.{ModuleArea}
 use Rattle.region_sets.specs.declared.modules.ModuleArea.TheVariants.{Missing, WrongSize, Uninit, Foreign, Ready}
 use Rattle.region_sets.specs.Modules.{is_of}
-use Rattle.region_lookups.specs.declared.positions.Short.{Short}
+use Rattle.region_lookups.specs.declared.positions.ModuleSpare.{ModuleSpare}
 
 -- the free slots of an area: those that the current index block says to be free
 abbrev pub free_slots_of : ModuleArea → ℕ
@@ -36,15 +36,15 @@ HaveSpareBelow platform labels region least end =
     (position : ℕ) → position < end → least ≤ spare_at platform labels region position
 
 -- the first position whose module has fewer
-pub record IsFirstShort (platform : Platform) (labels : Labels) (region : Region) (least : ℕ)
-    (short : Short) : Type 0 where
-  pub within : short.position < length region.members
-  pub dimm_is : short.dimm ≡ (member_at region short.position).handle
-  pub spare_is : short.spare ≡ spare_at platform labels region short.position
-  pub few : short.spare < least
-  pub before : HaveSpareBelow platform labels region least short.position
+pub record IsFirstBelow (platform : Platform) (labels : Labels) (region : Region) (least : ℕ)
+    (found : ModuleSpare) : Type 0 where
+  pub within : found.position < length region.members
+  pub dimm_is : found.dimm ≡ (member_at region found.position).handle
+  pub spare_is : found.spare ≡ spare_at platform labels region found.position
+  pub few : found.spare < least
+  pub before : HaveSpareBelow platform labels region least found.position
 
-abbrev pub IsFirstWithoutSpare : Platform → Labels → Region → ℕ → Option Short → Type 0
+abbrev pub IsFirstWithoutSpare : Platform → Labels → Region → ℕ → Option ModuleSpare → Type 0
 IsFirstWithoutSpare platform labels region least None =
     HaveSpareBelow platform labels region least (length region.members)
-IsFirstWithoutSpare platform labels region least (Some short) = IsFirstShort platform labels region least short
+IsFirstWithoutSpare platform labels region least (Some found) = IsFirstBelow platform labels region least found

@@ -11,9 +11,9 @@ mod statuses;
 mod tallies;
 
 pub use holders::holder_of;
-pub use named::{Named, namespace_named, other_named};
+pub use named::{Named, namespaces_named, other_named};
 pub use pending::first_pending;
-pub use positions::{Short, first_without_spare, free_slots_at, spare_at};
+pub use positions::{ModuleSpare, first_without_spare, free_slots_at, spare_at};
 pub use statuses::status;
 
 #[cfg(test)]

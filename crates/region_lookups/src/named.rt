@@ -20,7 +20,7 @@ pub enum Named {
 }
 
 /// The namespaces of the region with this name. Names are compared up to the first zero byte of each.
-pub fn namespace_named(modules: &[LoadedModule], kept: &RegionLabels, name: &[u8; 64]) -> Named
+pub fn namespaces_named(modules: &[LoadedModule], kept: &RegionLabels, name: &[u8; 64]) -> Named
     requires { IsOver modules.now kept.now }
     ensures { result ≡ named_in (labels_in modules.now) kept.now.region name.now }
 {

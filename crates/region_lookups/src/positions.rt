@@ -10,13 +10,12 @@ ghost use Rattle.region_lookups.specs.Positions.{IsFirstWithoutSpare, free_slots
 
 use region_sets::{LoadedModule, ModuleArea, RegionLabels, spare};
 
-/// A module that has too few slots left for new labels.
+/// How many slots of a region's module are left for new labels.
 #[derive(Clone, Copy, Debug, PartialEq, Eq)]
-pub struct Short {
+pub struct ModuleSpare {
     pub position: usize,
     /// The device handle.
     pub dimm: u32,
-    /// The number of slots that are left.
     pub spare: u32,
 }
 
@@ -77,7 +76,7 @@ pub fn first_without_spare(
     regions: &[RegionLabels],
     kept: &RegionLabels,
     least: u32,
-) -> Option<Short>
+) -> Option<ModuleSpare>
     requires regions { All (IsOver modules.now) regions.now }
     requires over { IsOver modules.now kept.now }
     ensures { IsFirstWithoutSpare (platform_of regions.now) (labels_in modules.now) kept.now.region least result }
@@ -86,7 +85,7 @@ pub fn first_without_spare(
         let spare = spare_at(modules, regions, kept, position);
         if spare < least {
             let dimm = kept.region.members.as_slice()[position].handle;
-            return Some(Short {
+            return Some(ModuleSpare {
                 position,
                 dimm,
                 spare,

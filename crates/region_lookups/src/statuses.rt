@@ -10,7 +10,8 @@ use crate::clashes::first_clash;
 use region_sets::{LoadedModule, RegionLabels};
 use view_types::Status;
 
-/// The status of the region. Its time grows with the square of the number of slots.
+/// The status of the region: the first that applies. Its time grows with the square of the number of slots of position
+/// 0's module.
 pub fn status(modules: &[LoadedModule], kept: &RegionLabels) -> Status
     requires { IsOver modules.now kept.now }
     ensures { result ≡ shown_status (status (labels_in modules.now) kept.now.region) }

@@ -173,7 +173,7 @@ fn names(rt: HostRuntime) -> Result<(), Fail> {
         (name(b""), (1, 0x15)),
         (name(b"db"), (0, 0)),
     ] {
-        let named = namespace_named(&modules, &kept, &text);
+        let named = namespaces_named(&modules, &kept, &text);
         assert_eq!(rt; count_and_first(&named), want);
     }
     let other = other_named(&modules, &kept, &name(b"db0"), &uuid(0x14));
@@ -255,7 +255,7 @@ fn slots(rt: HostRuntime) -> Result<(), Fail> {
         let spare = spare_at(&modules, &regions, kept, position);
         assert_eq!(rt; Some(&(free, spare)), rows.get(position));
     }
-    let short = |position, dimm, spare| Some(Short {
+    let short = |position, dimm, spare| Some(ModuleSpare {
         position,
         dimm,
         spare,

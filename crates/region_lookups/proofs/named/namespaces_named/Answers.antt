@@ -2,7 +2,7 @@ use Rattle.std.proofs.Common.{sym, ◌∙◌}
 use Rattle.region_sets.specs.Modules.{labels_in}
 use Rattle.region_lookups.specs.Spaces.{has_name, listed_spaces}
 use Rattle.region_lookups.proofs.Neighbours.{named-none, named-one, named-several}
-use Rattle.region_lookups.proofs.named.namespace_named.Goals as goal
+use Rattle.region_lookups.proofs.named.namespaces_named.Goals as goal
 
 pub returns-in-None : goal.returns-in-None
 returns-in-None c =
