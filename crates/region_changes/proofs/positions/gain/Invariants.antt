@@ -1,0 +1,9 @@
+use Rattle.std.proofs.Common.{◌≡◌, ◌+◌}
+use Rattle.module_labels.specs.Labels.{Labels}
+use Rattle.uuid_index.specs.Labels.{IsIndex}
+use Rattle.region_sets.specs.Regions.{handles}
+use Rattle.region_changes.proofs.Walked.{HasGained}
+use Rattle.region_changes.proofs.positions.gain.Given as goal
+
+abbrev pub invariant-loop-position : goal.invariant-loop-position
+invariant-loop-position l = HasGained l.dimm l.gained l.position l.fn.kept l.kept

@@ -1,0 +1,5 @@
+pub mod SlotLabels
+pub mod Changes
+pub mod Flips
+pub mod Rooms
+pub mod Followed
