@@ -1,27 +1,25 @@
 -- What the flips of an area make of the labels of its module.
-use Rattle.std.proofs.Common.{◌≡◌, ◌≢◌, ℕ, zero, suc, ◌<◌, Bool, true, false, ◌&&◌, ◌||◌, cond, eqb, ltb, List, [], ◌∷◌, length, get_or, Option, Some, None, refl, sym, ap, subst, ◌∙◌, eq-eqb, eqb-true, arith}
+use Rattle.std.proofs.Common.{◌≡◌, ◌≢◌, ℕ, zero, suc, ◌<◌, Bool, true, false, ◌||◌, cond, eqb, List, [], ◌∷◌, length, get_or, Option, Some, None, refl, sym, ap, subst, ◌∙◌, eq-eqb, arith}
 use Rattle.std.specs.FinMap.{get}
-use Rattle.std.specs.List.{All, Contains, cons_option, filter_map, list_any}
+use Rattle.std.specs.List.{All, cons_option}
 use Rattle.std.specs.Option.{option_and_then, option_map}
-use Rattle.std.specs.Prelude.{IfSome, IsSome, IsTrue, map}
+use Rattle.std.specs.Prelude.{IsSome, map}
 use Rattle.std.proofs.lemmas.Bool.{and_parts, cond-false, cond-true, ltb-true, ne_eqb}
 use Rattle.std.proofs.lemmas.List.Elements.{All-cons, All-nil}
 use Rattle.std.proofs.lemmas.Slice.Eq.{bytes_eq-Decides}
 use Rattle.label_table.proofs.ListTests.{none_some}
 use Rattle.label_codec.specs.declared.label.Label.{Label}
-use Rattle.module_labels.specs.declared.kind.AreaKind.TheVariants.{Ready}
 use Rattle.module_labels.specs.Flips.{without_slots}
 use Rattle.module_labels.specs.Labels.{Module}
-use Rattle.uuid_index.specs.Labels.{PutsLabel}
-use Rattle.label_area.specs.Flips.{Standing, after_free, after_put, at_slot, first_slot, is_among, replaced, shown_by, with_label}
+use Rattle.label_area.specs.Flips.{Standing, after_free, after_put, at_slot, first_slot, is_among, replaced, shown_by}
 use Rattle.label_area.specs.LoadedAreas.{IsSound, LoadedArea, is_used}
 use Rattle.region_changes.specs.declared.by_slot.SlotLabel.{SlotLabel}
-use Rattle.region_changes.specs.Flips.{GainsLabel, IsLiveIn, LosesLabels, ReplacesLabel, lost_labels}
+use Rattle.region_changes.specs.Flips.{IsLiveIn, LosesLabels, ReplacesLabel, lost_labels}
 use Rattle.region_changes.specs.SlotLabels.{AreApart, has_slot, slot_label, slot_labels}
 
 -- no live label stands past the slots
-record IsBoundedModule (area : Module) : Type 0 where
-  within : (slot : ℕ) (label : Label) → area.at slot ≡ Some label → slot < area.slots
+pub record IsBoundedModule (area : Module) : Type 0 where
+  pub within : (slot : ℕ) (label : Label) → area.at slot ≡ Some label → slot < area.slots
 
 sound-bounded : (area : LoadedArea) → IsSound area → IsBoundedModule (shown_by area).labels
 sound-bounded area sound = record {
@@ -40,7 +38,7 @@ live-at area bounded slot label is = record {
   has_uuid = (bytes_eq-Decides label.uuid label.uuid).1 refl;
 }
 
-slot-of : SlotLabel → ℕ
+abbrev slot-of : SlotLabel → ℕ
 slot-of one = one.slot
 
 -- the label of a slot, before others
@@ -52,16 +50,16 @@ module _ (area : Module) where
   holds-of_slots : (P : ℕ → Type 0) (slots : List ℕ) → ((k : ℕ) → k < length slots → P (get_or slots k 0))
       → (k : ℕ) → k < length (map slot-of (slot_labels area slots)) → P (get_or (map slot-of (slot_labels area slots)) k 0)
   holds-of_slots P [] all k lt = absurd (omega arith)
-  holds-of_slots P (s ∷ ss) all k lt = by (area.at s) k lt
+  holds-of_slots P (s ∷ ss) all k lt =
+      by (holds-of_slots P ss (λ k lt. all (suc k) (omega arith))) (area.at s) k lt
     where
-      rest : (k : ℕ) → k < length (map slot-of (slot_labels area ss)) → P (get_or (map slot-of (slot_labels area ss)) k 0)
-      rest = holds-of_slots P ss (λ k lt. all (suc k) (omega arith))
+      Holds : List SlotLabel → Type 0
+      Holds labels = (k : ℕ) → k < length (map slot-of labels) → P (get_or (map slot-of labels) k 0)
 
-      by : (label : Option Label) (k : ℕ) → k < length (map slot-of (before_others s label (slot_labels area ss)))
-          → P (get_or (map slot-of (before_others s label (slot_labels area ss))) k 0)
-      by None k lt = rest k lt
-      by (Some l) zero lt = all 0 (omega arith)
-      by (Some l) (suc k) lt = rest k (omega arith)
+      by : Holds (slot_labels area ss) → (label : Option Label) → Holds (before_others s label (slot_labels area ss))
+      by rest None k lt = rest k lt
+      by rest (Some l) zero lt = all 0 (omega arith)
+      by rest (Some l) (suc k) lt = rest k (omega arith)
 
   apart-cons : (x : ℕ) (xs : List ℕ) → ((k : ℕ) → k < length xs → x ≢ get_or xs k 0) → AreApart xs → AreApart (x ∷ xs)
   apart-cons x xs differ rest = record { apart = by }
@@ -73,39 +71,37 @@ module _ (area : Module) where
 
   apart-labels : (slots : List ℕ) → AreApart slots → AreApart (map slot-of (slot_labels area slots))
   apart-labels [] apart = apart
-  apart-labels (s ∷ ss) apart = by (area.at s)
+  apart-labels (s ∷ ss) apart =
+      by (apart-labels ss (record { apart = λ i j lt below. apart.apart (suc i) (suc j) (omega arith) (omega arith) }))
+      (area.at s)
     where
-      rest : AreApart (map slot-of (slot_labels area ss))
-      rest = apart-labels ss (record { apart = λ i j lt below. apart.apart (suc i) (suc j) (omega arith) (omega arith) })
-
-      by : (label : Option Label) → AreApart (map slot-of (before_others s label (slot_labels area ss)))
-      by None = rest
-      by (Some l) = apart-cons s (map slot-of (slot_labels area ss))
+      by : AreApart (map slot-of (slot_labels area ss)) → (label : Option Label)
+          → AreApart (map slot-of (before_others s label (slot_labels area ss)))
+      by rest None = rest
+      by rest (Some l) = apart-cons s (map slot-of (slot_labels area ss))
           (holds-of_slots (λ slot. s ≢ slot) ss (λ k lt. apart.apart 0 (suc k) (omega arith) (omega arith))) rest
 
   labels-live : IsBoundedModule area → (slots : List ℕ) → All (IsLiveIn area) (slot_labels area slots)
   labels-live bounded [] = All-nil (IsLiveIn area)
-  labels-live bounded (s ∷ ss) = by (area.at s) refl
+  labels-live bounded (s ∷ ss) = by (labels-live bounded ss) (area.at s) refl
     where
-      by : (label : Option Label) → area.at s ≡ label → All (IsLiveIn area) (before_others s label (slot_labels area ss))
-      by None is = labels-live bounded ss
-      by (Some l) is = All-cons (IsLiveIn area) _ (slot_labels area ss) (live-at area bounded s l is) (labels-live bounded ss)
+      by : All (IsLiveIn area) (slot_labels area ss) → (label : Option Label) → area.at s ≡ label
+          → All (IsLiveIn area) (before_others s label (slot_labels area ss))
+      by rest None is = rest
+      by rest (Some l) is = All-cons (IsLiveIn area) _ (slot_labels area ss) (live-at area bounded s l is) rest
 
   -- the labels have the slots that have a label
   same-slots : (slots : List ℕ) (k : ℕ) (label : Label) → area.at k ≡ Some label
       → is_among slots k ≡ has_slot (slot_labels area slots) k
   same-slots [] k label is = refl
-  same-slots (s ∷ ss) k label is = by (area.at s) refl
+  same-slots (s ∷ ss) k label is = by (same-slots ss k label is) (area.at s) refl
     where
-      rest : is_among ss k ≡ has_slot (slot_labels area ss) k
-      rest = same-slots ss k label is
-
-      by : (here : Option Label) → area.at s ≡ here
+      by : is_among ss k ≡ has_slot (slot_labels area ss) k → (here : Option Label) → area.at s ≡ here
           → (eqb k s || is_among ss k) ≡ has_slot (before_others s here (slot_labels area ss)) k
-      by None none =
+      by rest None none =
           let differ : k ≢ s = λ e. none_some (area.at s) none (sym (ap area.at e) ∙ is) in
           ap (λ b. b || is_among ss k) (ne_eqb k s differ) ∙ rest
-      by (Some l) there = ap (λ b. eqb k s || b) rest
+      by rest (Some l) there = ap (λ b. eqb k s || b) rest
 
   -- so the labels go where slots are freed
   freed-at : (slots : List ℕ) (k : ℕ)

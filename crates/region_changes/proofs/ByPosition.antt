@@ -1,6 +1,6 @@
 -- An index over the modules of a region, each position for itself, so that a module that stands at two positions is
 -- changed at one after the other.
-use Rattle.std.proofs.Common.{◌≡◌, ◌≢◌, ℕ, suc, ◌+◌, ◌<◌, ◌≤◌, eqb, ltb, List, [], ◌∷◌, ◌++◌, length, get_or, refl, sym, ap, subst, ◌∙◌, arith}
+use Rattle.std.proofs.Common.{◌≡◌, ◌≢◌, inl, inr, ℕ, suc, ◌+◌, ◌<◌, ◌≤◌, ltb, List, [], ◌∷◌, ◌++◌, length, get_or, refl, sym, ap, subst, ◌∙◌, arith}
 use Rattle.std.specs.List.{range_with_len}
 use Rattle.std.specs.List.Sorted.{IsPermutation}
 use Rattle.std.proofs.lemmas.Bool.{cases_lt, cond-false, cond-true, le-ltb, lt-ltb}
@@ -25,7 +25,7 @@ entries-by_position from [] labels own same = refl
 entries-by_position from (h ∷ hs) labels own same =
     let here : own from ≡ labels h = same 0 from (omega arith) (omega arith) in
     let rest : entries_from (from + 1) (range_with_len (from + 1) (length hs)) own ≡ entries_from (from + 1) hs labels =
-        entries-by_position (from + 1) hs labels own (λ k p lt is. same (suc k) p (omega arith) (omega arith)) in
+    entries-by_position (from + 1) hs labels own (λ k p lt is. same (suc k) p (omega arith) (omega arith)) in
     λ i. entries_of from (here i) ++ rest i
 
 module _ (region : Region) (before after : Labels) where
@@ -60,7 +60,7 @@ module _ (region : Region) (before after : Labels) where
       subst (λ m. entries_from 0 (range_with_len 0 m) own ≡ entries_from 0 (handles region) labels) len
       (entries-by_position 0 (handles region) labels own
       (λ k p lt is. let l : k < n = omega (arith, len) in let e : k ≡ p = omega arith in
-      subst (λ q. own q ≡ labels (handle_at region q)) e (same k l)))
+      subst (λ q. own q ≡ labels (handle_at region k)) e (same k l)))
 
   pub index-starts : (entries : List Entry) → IsIndex (handles region) before entries
       → IsIndexBelow region before after 0 entries
@@ -98,7 +98,7 @@ module _ (region : Region) (before after : Labels) where
       ]
 
   position-at : (p : ℕ) → p < n → get_or positions p 0 ≡ p
-  position-at p lt = get_or-range_with_len 0 n p 0 lt
+  position-at p lt = let e = get_or-range_with_len 0 n p 0 lt in omega arith
 
   -- one position alone changes
   gains : (position : ℕ) (one : SlotLabel) (old new : Labels) → position < n

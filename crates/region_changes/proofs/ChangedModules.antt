@@ -1,11 +1,10 @@
 -- The modules after one area has changed.
-use Rattle.std.proofs.Common.{◌≡◌, ◌≢◌, ℕ, zero, suc, ◌<◌, Bool, true, false, cond, eqb, List, [], ◌∷◌, length, get_or, Some, refl, sym, ap, subst, ◌∙◌, arith}
+use Rattle.std.proofs.Common.{◌≡◌, ◌≢◌, inl, inr, ℕ, zero, suc, ◌<◌, Bool, true, false, cond, eqb, List, [], ◌∷◌, length, get_or, Some, refl, sym, ap, subst, ◌∙◌, arith}
 use Rattle.std.specs.Prelude.{find, map}
 use Rattle.std.proofs.lemmas.Bool.{cases_eq, cond-false, ne_eqb}
-use Rattle.std.proofs.lemmas.List.{ext_get_or, get_or-map, get_or-set_other, get_or-set_same, length-map}
+use Rattle.std.proofs.lemmas.List.{ext_get_or, get_or-map, get_or-set_other, get_or-set_same}
 use Rattle.std.proofs.Math.ListN.{length-set, set}
 use Rattle.region_map.specs.declared.platform.Member.{Member}
-use Rattle.module_labels.specs.Labels.{Labels}
 use Rattle.region_sets.specs.declared.modules.LoadedModule.{LoadedModule}
 use Rattle.region_sets.specs.declared.region.RegionLabels.{RegionLabels}
 use Rattle.region_sets.specs.Modules.{EachOnce, dimm_of, is_of, labels_in, module_in, module_or_missing}
@@ -42,13 +41,13 @@ labels-others (x ∷ xs) (y ∷ ys) zero changed handle differ =
     let other : eqb x.dimm handle ≡ false = ne_eqb x.dimm handle (λ e. differ (sym e)) in
     let dimm : y.dimm ≡ x.dimm = changed.dimm x in
     let same : ys ≡ xs = ext_get_or x ys xs
-        (let e : suc (length ys) ≡ suc (length xs) = changed.each in omega arith)
-        (λ i lt. changed.others (suc i) x (omega arith)) in
+    (let e : suc (length ys) ≡ suc (length xs) = changed.each in omega arith)
+    (λ i lt. changed.others (suc i) x (omega arith)) in
     ap module_or_missing (cond-false (eqb y.dimm handle) _ _ (ap (λ h. eqb h handle) dimm ∙ other)
     ∙ ap (find (is_of handle)) same ∙ sym (cond-false (eqb x.dimm handle) _ _ other))
 labels-others (x ∷ xs) (y ∷ ys) (suc seat) changed handle differ =
     subst (λ (z : LoadedModule). labels_in (z ∷ ys) handle ≡ labels_in (x ∷ xs) handle)
-    (sym (changed.others 0 x (omega arith))) (by (eqb x.dimm handle))
+    (sym (changed.others 0 x (omega arith))) (by (labels-others xs ys seat tails handle differ) (eqb x.dimm handle))
   where
     tails : IsChangedAt xs ys seat
     tails = record {
@@ -58,13 +57,10 @@ labels-others (x ∷ xs) (y ∷ ys) (suc seat) changed handle differ =
       others = λ k d ne. changed.others (suc k) d (omega arith);
     }
 
-    rest : labels_in ys handle ≡ labels_in xs handle
-    rest = labels-others xs ys seat tails handle differ
-
-    by : (b : Bool) → module_or_missing (cond b (Some x) (find (is_of handle) ys))
+    by : labels_in ys handle ≡ labels_in xs handle → (b : Bool) → module_or_missing (cond b (Some x) (find (is_of handle) ys))
         ≡ module_or_missing (cond b (Some x) (find (is_of handle) xs))
-    by true = refl
-    by false = rest
+    by rest true = refl
+    by rest false = rest
 
 module _ (before after : List LoadedModule) (seat : ℕ) (changed : IsChangedAt before after seat) where
   pub dimm-same : (k : ℕ) (d : LoadedModule) → (get_or after k d).dimm ≡ (get_or before k d).dimm

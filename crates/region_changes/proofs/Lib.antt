@@ -6,3 +6,6 @@ pub mod Walked
 pub mod Looped
 pub mod Stepped
 pub mod AreaFlips
+pub mod AllFollow
+pub mod Reserved
+pub mod Follows

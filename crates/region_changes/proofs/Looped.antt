@@ -1,10 +1,10 @@
 -- A list whose items are changed one after another.
-use Rattle.std.proofs.Common.{◌≡◌, ◌≢◌, ℕ, zero, suc, ◌+◌, ◌<◌, ◌≤◌, List, [], ◌∷◌, length, get_or, refl, sym, ap, subst, ◌∙◌, arith}
+use Rattle.std.proofs.Common.{◌≡◌, inl, inr, ℕ, suc, ◌+◌, ◌<◌, ◌≤◌, List, [], ◌∷◌, length, get_or, refl, sym, subst, ◌∙◌, arith}
 use Rattle.std.specs.List.{All, AllZip}
 use Rattle.std.proofs.Math.ListN.{length-set, set}
 use Rattle.std.proofs.lemmas.Bool.{cases_eq}
-use Rattle.std.proofs.lemmas.List.{get_or-set_other, get_or-set_same}
-use Rattle.std.proofs.lemmas.List.Elements.{All-cons, All-nil}
+use Rattle.std.proofs.lemmas.List.{get_or-set_other, get_or-set_same, get_or_default}
+use Rattle.std.proofs.lemmas.List.Elements.{All-cons, All-nil, AllZip-get_or, length_all_zip}
 
 -- the items below a place have changed
 pub record AreChanged {X : Type 0} (R : X → X → Type 0) (old : List X) (place : ℕ) (now : List X) : Type 0 where
@@ -21,8 +21,8 @@ module _ {X : Type 0} (R : X → X → Type 0) where
   }
 
   pub changed-next : (old now : List X) (place : ℕ) (new : X) → place < length old → AreChanged R old place now
-      → ((d : X) → R (get_or now place d) new) → AreChanged R old (place + 1) (set now place new)
-  changed-next old now place new lt changed here = record {
+      → (e : X) → R (get_or now place e) new → AreChanged R old (place + 1) (set now place new)
+  changed-next old now place new lt changed e here = record {
     each = length-set now place new ∙ changed.each;
     done = done;
     ahead = λ k d le. get_or-set_other now place k new d (omega arith) ∙ changed.ahead k d (omega arith);
@@ -33,9 +33,10 @@ module _ {X : Type 0} (R : X → X → Type 0) where
 
       done : (k : ℕ) (d : X) → k < place + 1 → R (get_or old k d) (get_or (set now place new) k d)
       done k d below = elim (cases_eq k place) [
-        | inl e ↦ subst (λ p. R (get_or old p d) (get_or (set now place new) p d)) (sym e)
+        | inl is ↦ subst (λ p. R (get_or old p d) (get_or (set now place new) p d)) (sym is)
             (subst (λ x. R x (get_or (set now place new) place d)) (changed.ahead place d (omega arith))
-            (subst (λ y. R (get_or now place d) y) (sym (get_or-set_same now place new d within)) (here d)))
+            (subst (λ y. R (get_or now place d) y) (sym (get_or-set_same now place new d within))
+            (subst (λ x. R x new) (get_or_default now place e d within) here)))
         | inr differ ↦ subst (λ y. R (get_or old k d) y) (sym (get_or-set_other now place k new d differ))
             (changed.done k d (omega arith))
       ]
@@ -64,3 +65,13 @@ zip-right R P gives [] [] all = All-nil P
 zip-right R P gives [] (y ∷ ys) all = absurd all
 zip-right R P gives (x ∷ xs) [] all = absurd all
 zip-right R P gives (x ∷ xs) (y ∷ ys) all = All-cons P y ys (gives x y all.0) (zip-right R P gives xs ys all.1)
+
+pub zip-carry : {X : Type 0} (R : X → X → Type 0) (P : X → Type 0) → ((x y : X) → R x y → P x → P y)
+    → (xs ys : List X) → AllZip R xs ys → All P xs → All P ys
+zip-carry R P carry xs ys zip all = λ k d lt.
+    let e : length xs ≡ length ys = length_all_zip R xs ys zip in
+    let below : k < length xs = omega arith in
+    carry (get_or xs k d) (get_or ys k d) (AllZip-get_or R xs ys k d d zip below) (all k d below)
+
+pub only : {X : Type 0} (P : X → Type 0) (x : X) → P x → All P (x ∷ [])
+only P x here = All-cons P x [] here (All-nil P)

@@ -1,6 +1,6 @@
 -- A module loses labels one after another, and may get one.
-use Rattle.std.proofs.Common.{◌≡◌, ◌≢◌, ℕ, ◌+◌, ◌<◌, Bool, true, false, ◌||◌, cond, eqb, List, [], ◌∷◌, ◌++◌, length, get_or, take, Some, None, refl, sym, ap, subst, ◌∙◌, eq-eqb, eqb-true, arith}
-use Rattle.std.specs.List.{Contains, list_any}
+use Rattle.std.proofs.Common.{◌≡◌, ◌≢◌, ℕ, ◌+◌, ◌<◌, Bool, true, false, ◌||◌, cond, eqb, List, [], ◌∷◌, length, get_or, take, None, refl, sym, ap, subst, ◌∙◌, eq-eqb, eqb-true, arith}
+use Rattle.std.specs.List.{Contains}
 use Rattle.std.specs.Prelude.{map}
 use Rattle.std.proofs.Math.Seq.{take-length}
 use Rattle.label_table.proofs.ListTests.{list_any-found}
@@ -13,7 +13,7 @@ use Rattle.module_labels.specs.Flips.{with_module, without_slots}
 use Rattle.module_labels.specs.Labels.{Labels, Module}
 use Rattle.region_changes.specs.declared.by_slot.SlotLabel.{SlotLabel}
 use Rattle.region_changes.specs.Flips.{GainsLabel, IsLiveIn, LosesLabels}
-use Rattle.region_changes.specs.Followed.{GainsAt, LosesAt}
+use Rattle.region_changes.specs.Followed.{LosesAt}
 use Rattle.region_changes.specs.SlotLabels.{has_slot}
 
 pub at_handle : (labels : Labels) (handle : ℕ) (area : Module) → with_module handle area labels handle ≡ area
@@ -23,7 +23,7 @@ pub elsewhere : (labels : Labels) (handle : ℕ) (area : Module) (other : ℕ) �
     → with_module handle area labels other ≡ labels other
 elsewhere labels handle area other differs = cond-false (eqb other handle) _ _ (ne_eqb other handle differs)
 
-slot-of : SlotLabel → ℕ
+abbrev slot-of : SlotLabel → ℕ
 slot-of one = one.slot
 
 module _ (area after : Module) (lost : List SlotLabel) (loses : LosesLabels area after lost) where
@@ -51,8 +51,8 @@ module _ (area after : Module) (lost : List SlotLabel) (loses : LosesLabels area
         earlier x there same =
             let short : length (take i lost) ≡ i = length-take-le i lost (omega arith) in
             let k : ℕ = there.0 in
-            let below : k < i = subst (λ n. k < n) short there.1.0 in
-            let at : get_or lost k x ≡ x = sym (get_or-take i lost k x below) ∙ there.1.1 in
+            let below : k < i = subst (λ n. k < n) short there.1 in
+            let at : get_or lost k x ≡ x = sym (get_or-take i lost k x below) ∙ there.2 in
             let all : length (map slot-of lost) ≡ length lost = length-map lost slot-of in
             loses.apart.apart k i below (subst (λ n. i < n) (sym all) lt)
             (slot-at k x (omega arith) ∙ ap slot-of at ∙ sym (eqb-true one.slot x.slot same)
@@ -62,7 +62,7 @@ module _ (area after : Module) (lost : List SlotLabel) (loses : LosesLabels area
         by false e = refl
         by true e =
             let found = list_any-found (λ (x : SlotLabel). eqb one.slot x.slot) (take i lost) e in
-            absurd (earlier found.0 found.1.0 found.1.1)
+            absurd (earlier found.0 found.1 found.2)
 
     gone : has_slot (take (i + 1) lost) one.slot ≡ true
     gone = more one.slot ∙ by (has_slot (take i lost) one.slot) (eqb one.slot one.slot) (eq-eqb one.slot one.slot refl)

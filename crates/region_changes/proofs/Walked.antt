@@ -1,14 +1,13 @@
 -- What holds as the positions of a region are walked over.
-use Rattle.std.proofs.Common.{◌≡◌, ℕ, ◌+◌, ◌<◌, ◌≤◌, length, refl, sym, ap, subst, ◌∙◌, arith}
+use Rattle.std.proofs.Common.{◌≡◌, ℕ, ◌+◌, ◌<◌, length, refl, ap, subst, ◌∙◌, arith}
 use Rattle.module_labels.specs.Labels.{Labels}
 use Rattle.uuid_index.specs.Labels.{IsIndex}
 use Rattle.region_sets.specs.declared.region.RegionLabels.{RegionLabels}
 use Rattle.region_sets.specs.Regions.{handles}
 use Rattle.region_changes.specs.declared.by_slot.SlotLabel.{SlotLabel}
 use Rattle.region_changes.specs.Followed.{FollowsGain, FollowsGainTo, FollowsLoss, FollowsLossTo, GainsAt, HasLost, IsIndexBelow, LosesAt, count_below, here}
-use Rattle.region_changes.specs.Rooms.{KeepsRegion, position_count, room_after_put}
 use Rattle.region_changes.proofs.ByPosition.{index-ends, index-starts}
-use Rattle.region_changes.proofs.Counted.{count-all, count-most, count-next}
+use Rattle.region_changes.proofs.Counted.{count-all, count-next}
 
 -- the index follows a gain at the positions before one
 pub record HasGained (dimm : ℕ) (gained : SlotLabel) (position : ℕ) (old new : RegionLabels) : Type 0 where
@@ -46,7 +45,7 @@ module _ (dimm : ℕ) (one : SlotLabel) where
     seats = seats ∙ done.seats;
     room =
         let now : new.index.room + here dimm old.region position ≡ mid.index.room =
-            subst (λ r. new.index.room + here dimm r position ≡ mid.index.room) done.region room in
+        subst (λ r. new.index.room + here dimm r position ≡ mid.index.room) done.region room in
         let next = count-next dimm old.region position lt in
         let was = done.room in
         omega arith;
@@ -80,10 +79,10 @@ module _ (dimm : ℕ) (one : SlotLabel) where
     index = λ before after loss is.
         let was = done.index before after loss is in
         let now : HasLost mid new (here dimm old.region position)
-            (IsIndexBelow old.region before after (position + 1) new.index.entries) =
-            subst (λ r. IsIndexBelow r before after position mid.index.entries
-            → HasLost mid new (here dimm r position) (IsIndexBelow r before after (position + 1) new.index.entries))
-            done.region (follows before after loss) was.is in
+        (IsIndexBelow old.region before after (position + 1) new.index.entries) =
+        subst (λ r. IsIndexBelow r before after position mid.index.entries
+        → HasLost mid new (here dimm r position) (IsIndexBelow r before after (position + 1) new.index.entries))
+        done.region (follows before after loss) was.is in
         let next = count-next dimm old.region position lt in
         let more = now.room in
         let before_room = was.room in

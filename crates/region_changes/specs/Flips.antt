@@ -1,9 +1,9 @@
 -- What one flip of a module's area makes of its labels, and regions that stood over the modules before it.
-use Rattle.std.specs.Prelude.{◌≡◌, ◌≢◌, ℕ, ◌<◌, List, [], ◌∷◌, Option, None, Some, length, map, slice_index_or}
+use Rattle.std.specs.Prelude.{◌≡◌, ℕ, List, [], ◌∷◌, Option, None, Some, map, slice_index_or}
 use Rattle.std.specs.List.{All}
 use Rattle.label_codec.specs.declared.label.Label.{Label}
 use Rattle.module_labels.specs.Flips.{without_slots}
-use Rattle.module_labels.specs.Labels.{Labels, Module}
+use Rattle.module_labels.specs.Labels.{Module}
 use Rattle.uuid_index.specs.Found.{IsLive}
 use Rattle.uuid_index.specs.Labels.{PutsLabel}
 use Rattle.region_sets.specs.declared.modules.LoadedModule.{LoadedModule}

@@ -1,5 +1,5 @@
 -- How an index follows one label of a module, position by position.
-use Rattle.std.specs.Prelude.{◌≡◌, ◌≢◌, ℕ, ◌+◌, ◌==◌, List, count_by, take, if◌then◌else◌, length, nat_lt, slice_index}
+use Rattle.std.specs.Prelude.{◌≡◌, ◌≢◌, ℕ, ◌+◌, ◌==◌, List, Option, None, Some, count_by, take, if◌then◌else◌, length, nat_lt, slice_index}
 use Rattle.std.specs.List.{range_with_len}
 use Rattle.module_labels.specs.Labels.{Labels}
 use Rattle.region_map.specs.declared.platform.Region.{Region}
@@ -73,3 +73,13 @@ abbrev pub FollowsLoss : ℕ → SlotLabel → RegionLabels → RegionLabels →
 FollowsLoss dimm lost old new = (before after : Labels) → LosesAt dimm lost before after
     → IsIndex (handles old.region) before old.index.entries
     → HasLost old new (position_count dimm old.region) (IsIndex (handles old.region) after new.index.entries)
+
+-- an index after a module has lost a label, or none
+pub record LosesLabel (dimm : ℕ) (lost : SlotLabel) (old new : RegionLabels) : Type 0 where
+  pub region : new.region ≡ old.region
+  pub seats : new.seats ≡ old.seats
+  pub index : FollowsLoss dimm lost old new
+
+abbrev pub LosesIfAny : ℕ → Option SlotLabel → RegionLabels → RegionLabels → Type 0
+LosesIfAny dimm None old new = new ≡ old
+LosesIfAny dimm (Some lost) old new = LosesLabel dimm lost old new

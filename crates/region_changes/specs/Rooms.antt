@@ -1,7 +1,6 @@
 -- The room in the indexes of regions, in entries.
-use Rattle.std.specs.Prelude.{◌≡◌, ℕ, ◌+◌, ◌-◌, ◌*◌, ◌==◌, ◌≤◌, List, Option, None, Some, count_by, length, slice_index_or}
+use Rattle.std.specs.Prelude.{◌≡◌, ℕ, ◌+◌, ◌-◌, ◌*◌, ◌==◌, ◌≤◌, Option, None, Some, count_by, length}
 use Rattle.region_map.specs.declared.platform.Region.{Region}
-use Rattle.region_sets.specs.declared.modules.LoadedModule.{LoadedModule}
 use Rattle.region_sets.specs.declared.region.RegionLabels.{RegionLabels}
 use Rattle.region_sets.specs.Regions.{handles}
 use Rattle.region_changes.specs.declared.by_slot.SlotLabel.{SlotLabel}

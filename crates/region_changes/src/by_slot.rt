@@ -35,11 +35,8 @@ pub fn slot_labels(
 ) -> Result<Vec<SlotLabel>, AllocError>
     ensures { IfOk result (λ labels. labels.items ≡ slot_labels (module_in loaded.now) slots.now) }
 {
-    let mut labels = Vec::new(alloc);
-    for slot in slots {
-        if let Some(label) = slot_label(loaded, *slot) {
-            labels.push(label)?;
-        }
-    }
-    Ok(labels)
+    slots
+        .iter()
+        .filter_map(|slot| slot_label(loaded, *slot))
+        .collect(alloc)
 }

@@ -7,8 +7,8 @@ ghost use Rattle.region_changes.specs.Changes.{dimm_at};
 ghost use Rattle.region_changes.specs.Flips.{StoodBeforeFree, StoodBeforePut};
 ghost use Rattle.region_changes.specs.Rooms.{HasRoomFor, KeepsRegion, room_after_free, room_after_put};
 
-use crate::positions::{gain, lose};
 use crate::by_slot::SlotLabel;
+use crate::positions::{gain, lose, lose_if_any};
 use region_sets::{LoadedModule, RegionLabels};
 
 /// The indexes of regions follow a label that was put into a free slot of the module at a seat, and the one that it
@@ -43,9 +43,7 @@ fn follow_put_in(
     ensures kept { KeepsRegion (room_after_put (dimm_at modules.now seat) lost.now) kept.old kept.new }
 {
     let dimm = modules[seat].dimm;
-    if let Some(lost) = lost {
-        lose(kept, dimm, lost);
-    }
+    lose_if_any(kept, dimm, lost);
     gain(kept, dimm, gained);
 }
 

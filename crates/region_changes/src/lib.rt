@@ -7,7 +7,6 @@ mod follow;
 mod positions;
 mod rooms;
 
-
+pub use by_slot::{SlotLabel, slot_label, slot_labels};
 pub use follow::{follow_free, follow_put};
 pub use rooms::reserve;
-pub use by_slot::{SlotLabel, slot_label, slot_labels};

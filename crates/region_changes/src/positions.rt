@@ -1,7 +1,7 @@
 //! The entries of a label at all positions of its module.
 
 ghost use Rattle.std.specs.Prelude.{◌≡◌, ◌+◌, ◌<◌, ◌≤◌, None, length};
-ghost use Rattle.region_changes.specs.Followed.{FollowsGain, FollowsGainTo, FollowsLoss, FollowsLossTo, here};
+ghost use Rattle.region_changes.specs.Followed.{FollowsGain, FollowsGainTo, FollowsLossTo, LosesIfAny, LosesLabel, here};
 ghost use Rattle.region_changes.specs.Rooms.{HasRoomFor, KeepsRegion, room_after_put};
 
 use crate::by_slot::SlotLabel;
@@ -51,12 +51,19 @@ fn gain_at(kept: &mut RegionLabels, position: usize, dimm: u32, gained: &SlotLab
 
 /// Removes the entries of a label that the module with this device handle has lost.
 pub(crate) fn lose(kept: &mut RegionLabels, dimm: u32, lost: &SlotLabel)
-    ensures region { kept.new.region ≡ kept.old.region }
-    ensures seats { kept.new.seats ≡ kept.old.seats }
-    ensures index { FollowsLoss dimm lost.now kept.old kept.new }
+    ensures { LosesLabel dimm lost.now kept.old kept.new }
 {
     for position in 0..kept.region.members.len() {
         lose_at(kept, position, dimm, lost);
+    }
+}
+
+/// Removes the entries of a label that the module with this device handle has lost, if it has lost one.
+pub(crate) fn lose_if_any(kept: &mut RegionLabels, dimm: u32, lost: &Option<SlotLabel>)
+    ensures { LosesIfAny dimm lost.now kept.old kept.new }
+{
+    if let Some(lost) = lost {
+        lose(kept, dimm, lost);
     }
 }
 

@@ -1,6 +1,6 @@
 //! Room in the indexes of regions.
 
-ghost use Rattle.std.specs.Prelude.{◌≡◌, ◌≤◌, ℕ, OnOk, length};
+ghost use Rattle.std.specs.Prelude.{List, OnOk};
 ghost use Rattle.std.specs.List.{All, AllZip};
 ghost use Rattle.region_sets.specs.declared.modules.LoadedModule.{LoadedModule};
 ghost use Rattle.region_sets.specs.Regions.{IsOver};

@@ -1,7 +1,3 @@
-use Rattle.std.proofs.Common.{◌≡◌, ◌+◌}
-use Rattle.module_labels.specs.Labels.{Labels}
-use Rattle.uuid_index.specs.Labels.{IsIndex}
-use Rattle.region_sets.specs.Regions.{handles}
 use Rattle.region_changes.proofs.Walked.{HasGained}
 use Rattle.region_changes.proofs.positions.gain.Given as goal
 
