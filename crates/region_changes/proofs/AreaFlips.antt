@@ -2,7 +2,7 @@
 use Rattle.std.proofs.Common.{◌≡◌, ◌≢◌, ℕ, zero, suc, ◌<◌, Bool, true, false, ◌||◌, cond, eqb, List, [], ◌∷◌, length, get_or, Option, Some, None, refl, sym, ap, subst, ◌∙◌, eq-eqb, arith}
 use Rattle.std.specs.FinMap.{get}
 use Rattle.std.specs.List.{All, cons_option}
-use Rattle.std.specs.Option.{option_and_then, option_map}
+use Rattle.std.specs.Option.{option_map}
 use Rattle.std.specs.Prelude.{IsSome, map}
 use Rattle.std.proofs.lemmas.Bool.{and_parts, cond-false, cond-true, ltb-true, ne_eqb}
 use Rattle.std.proofs.lemmas.List.Elements.{All-cons, All-nil}
@@ -15,7 +15,7 @@ use Rattle.label_area.specs.Flips.{Standing, after_free, after_put, at_slot, fir
 use Rattle.label_area.specs.LoadedAreas.{IsSound, LoadedArea, is_used}
 use Rattle.region_changes.specs.declared.by_slot.SlotLabel.{SlotLabel}
 use Rattle.region_changes.specs.Flips.{IsLiveIn, LosesLabels, ReplacesLabel, lost_labels}
-use Rattle.region_changes.specs.SlotLabels.{AreApart, has_slot, slot_label, slot_labels}
+use Rattle.region_changes.specs.SlotLabels.{AreApart, has_slot, replaced_label, slot_labels}
 
 -- no live label stands past the slots
 pub record IsBoundedModule (area : Module) : Type 0 where
@@ -146,12 +146,8 @@ replaced-apart : (replaces : Option ℕ) → AreApart (replaced replaces)
 replaced-apart None = none-apart
 replaced-apart (Some slot) = one-apart slot
 
--- the label that a put replaces
-abbrev pub replaced_label : LoadedArea → Option ℕ → Option SlotLabel
-replaced_label area replaces = option_and_then (slot_label (area-of area)) replaces
-
 lost-are : (area : LoadedArea) (replaces : Option ℕ)
-    → slot_labels (area-of area) (replaced replaces) ≡ lost_labels (replaced_label area replaces)
+    → slot_labels (area-of area) (replaced replaces) ≡ lost_labels (replaced_label (area-of area) replaces)
 lost-are area None = refl
 lost-are area (Some slot) = by (get area.live slot)
   where
@@ -165,10 +161,10 @@ pub put-replaces : (before after : LoadedArea) (label : Label) (replaces : Optio
     → first_slot before < before.geometry.slots → get before.live (first_slot before) ≡ None
     → shown_by after ≡ after_put before label replaces
     → ReplacesLabel (area-of before) (area-of after) (record { uuid = label.uuid; slot = first_slot before })
-    (replaced_label before replaces)
+    (replaced_label (area-of before) replaces)
 put-replaces before after label replaces sound within free flip =
     subst (λ (s : Standing). ReplacesLabel (area-of before) s.labels (record { uuid = label.uuid; slot = slot })
-    (replaced_label before replaces)) (sym flip) (record {
+    (replaced_label (area-of before) replaces)) (sym flip) (record {
       between = between;
       loses = subst (LosesLabels (area-of before) between) (lost-are before replaces)
           (loses-slots (area-of before) (sound-bounded before sound) (replaced replaces) (replaced-apart replaces));

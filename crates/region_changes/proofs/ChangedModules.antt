@@ -1,10 +1,11 @@
 -- The modules after one area has changed.
-use Rattle.std.proofs.Common.{◌≡◌, ◌≢◌, inl, inr, ℕ, zero, suc, ◌<◌, Bool, true, false, cond, eqb, List, [], ◌∷◌, length, get_or, Some, refl, sym, ap, subst, ◌∙◌, arith}
+use Rattle.std.proofs.Common.{◌≡◌, ◌≢◌, inl, inr, ℕ, zero, suc, ◌<◌, Bool, true, false, cond, eqb, List, [], ◌∷◌, length, get_or, Some, refl, sym, ap, subst, ◌∙◌, eq-eqb, arith}
 use Rattle.std.specs.Prelude.{find, map}
-use Rattle.std.proofs.lemmas.Bool.{cases_eq, cond-false, ne_eqb}
+use Rattle.std.proofs.lemmas.Bool.{cases_eq, cond-false, cond-true, ne_eqb}
 use Rattle.std.proofs.lemmas.List.{ext_get_or, get_or-map, get_or-set_other, get_or-set_same}
 use Rattle.std.proofs.Math.ListN.{length-set, set}
 use Rattle.region_map.specs.declared.platform.Member.{Member}
+use Rattle.module_labels.specs.Flips.{with_module}
 use Rattle.region_sets.specs.declared.modules.LoadedModule.{LoadedModule}
 use Rattle.region_sets.specs.declared.region.RegionLabels.{RegionLabels}
 use Rattle.region_sets.specs.Modules.{EachOnce, dimm_of, is_of, labels_in, module_in, module_or_missing}
@@ -111,3 +112,24 @@ module _ (before after : List LoadedModule) (seat : ℕ) (changed : IsChangedAt 
         (seats-after old.region.members old.seats.items over.seats));
     index = subst (λ r. IsIndex (handles r) (labels_in after) new.index.entries) (sym region) index;
   }
+
+-- The labels are those before with one module changed.
+pub labels-after : (before after : List LoadedModule) (seat : ℕ) (d : LoadedModule) → EachOnce before
+    → IsChangedAt before after seat
+    → labels_in after ≡ with_module (dimm_at before seat) (module_in (get_or after seat d)) (labels_in before)
+labels-after before after seat d once changed = λ i handle. at handle i
+  where
+    dimm : ℕ
+    dimm = dimm_at before seat
+
+    here : labels_in after dimm ≡ module_in (get_or after seat d)
+    here = ap (labels_in after) (sym (dimm_at-same before after seat changed))
+        ∙ labels-at after seat d (once-after before after seat changed once)
+        (subst (λ n. seat < n) (sym changed.each) changed.within)
+
+    at : (handle : ℕ) → labels_in after handle ≡ with_module dimm (module_in (get_or after seat d)) (labels_in before) handle
+    at handle = elim (cases_eq handle dimm) [
+      | inl e ↦ ap (labels_in after) e ∙ here ∙ sym (cond-true (eqb handle dimm) _ _ (eq-eqb handle dimm e))
+      | inr differ ↦ labels-others before after seat changed handle differ
+          ∙ sym (cond-false (eqb handle dimm) _ _ (ne_eqb handle dimm differ))
+    ]

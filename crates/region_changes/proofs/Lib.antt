@@ -6,6 +6,8 @@ pub mod Walked
 pub mod Looped
 pub mod Stepped
 pub mod AreaFlips
+pub mod RoomSums
+pub mod FreeSpace
 pub mod AllFollow
 pub mod Reserved
 pub mod Follows

@@ -3,3 +3,4 @@ pub mod Changes
 pub mod Flips
 pub mod Rooms
 pub mod Followed
+pub mod Spaces

@@ -1,5 +1,6 @@
 -- The room in the indexes of regions, in entries.
-use Rattle.std.specs.Prelude.{◌≡◌, ℕ, ◌+◌, ◌-◌, ◌*◌, ◌==◌, ◌≤◌, Option, None, Some, count_by, length}
+use Rattle.std.specs.Prelude.{◌≡◌, ℕ, ◌+◌, ◌-◌, ◌*◌, ◌==◌, ◌≤◌, List, Option, None, Some, count_by, length}
+use Rattle.std.specs.List.{sum_by}
 use Rattle.region_map.specs.declared.platform.Region.{Region}
 use Rattle.region_sets.specs.declared.region.RegionLabels.{RegionLabels}
 use Rattle.region_sets.specs.Regions.{handles}
@@ -8,6 +9,10 @@ use Rattle.region_changes.specs.declared.by_slot.SlotLabel.{SlotLabel}
 -- how many positions of a region have the module with a handle
 abbrev pub position_count : ℕ → Region → ℕ
 position_count dimm region = count_by (λ handle. handle == dimm) (handles region)
+
+-- the room that a label more of each of some modules takes
+abbrev pub room_for : List ℕ → Region → ℕ
+room_for dimms region = sum_by (λ dimm. position_count dimm region) dimms
 
 -- the index has room for a label more of this module
 abbrev pub HasRoomFor : ℕ → RegionLabels → Type 0
