@@ -1,8 +1,10 @@
--- The size that the free space of a region has room for.
-use Rattle.std.proofs.Common.{◌≡◌, ℕ, ◌*◌, ◌-◌, ◌<◌, ◌^◌, List, length, get_or, map, min, Option, Some, None, refl, sym, ap, subst, ◌∙◌, arith}
-use Rattle.std.proofs.lemmas.List.{get_or-map, get_or_read, length-map}
+-- What is kept of a region, by its index, and how much room its free space has.
+use Rattle.std.proofs.Common.{◌≡◌, ℕ, zero, suc, ◌*◌, ◌-◌, ◌<◌, ◌^◌, List, [], ◌∷◌, length, get_or, map, min, Option, Some, None, refl, sym, ap, subst, ◌∙◌, arith}
+use Rattle.std.proofs.lemmas.List.{get_or-map}
+use Rattle.std.proofs.lemmas.List.Elements.{All-get_or}
 use Rattle.view_types.specs.declared.extents.Extent.{Extent}
-use Rattle.view_types.specs.Intervals.{greatest_aligned}
+use Rattle.std.specs.Prelude.{IfNone, IfSome}
+use Rattle.view_types.specs.Intervals.{IsFirstFit, NoneFits, greatest_aligned, is_free}
 use Rattle.module_labels.specs.Labels.{Labels}
 use Rattle.region_map.specs.declared.platform.Platform.{Platform}
 use Rattle.region_map.specs.declared.platform.Region.{Region}
@@ -12,11 +14,13 @@ use Rattle.label_table.proofs.Partition.{maximal-one}
 use Rattle.label_table.specs.Division.{is_common_free}
 use Rattle.extent_alloc.specs.Free.{FreeSpace}
 use Rattle.region_sets.specs.declared.region.RegionLabels.{RegionLabels}
-use Rattle.region_sets.specs.Fates.{platform_of, region_in, with_regions}
+use Rattle.region_sets.specs.Fates.{platform_of, region_in}
 use Rattle.region_sets.specs.Modules as modules
 use Rattle.label_sets.specs.declared.sets.Sets.TheInside.{Inside}
 use Rattle.label_sets.specs.Kept.{IsFree, IsKept, shown}
 use Rattle.label_sets.specs.Largest.{IsLargestOf, TellsLargest}
+use Rattle.label_sets.specs.Lookups.{FitsFirst, FitsFirstIn, IsFitIn, IsKeptRegion}
+use Rattle.region_sets.specs.Regions.{IsOver}
 use Rattle.label_sets.specs.Sets.{StoredSets, labels_in, platform_in}
 use Rattle.label_sets.specs.Views.{IsPlaceOf}
 
@@ -24,6 +28,30 @@ use Rattle.label_sets.specs.Views.{IsPlaceOf}
 kept_is : (P : Platform) (L : Labels) (r : Region) (free : FreeSpace) → AreFreeExtents P L r free.extents → (extents : List Extent) → AreFreeExtents P L r extents
     → greatest_aligned alignment free.extents ≡ greatest_aligned alignment extents
 kept_is P L r free are extents other = ap (greatest_aligned alignment) (maximal-one (part_size r) (is_common_free P L r) free.extents extents are other)
+
+-- what stands at a place
+pub element : {X : Type 0} (xs : List X) (k : ℕ) → k < length xs → (x : X) × (x ≡ get_or xs k x)
+element [] k lt = absurd (omega arith)
+element (x ∷ xs) zero lt = (x, refl)
+element (x ∷ xs) (suc k) lt = element xs k (omega arith)
+
+-- a fit or none is one of these extents
+pub fit_by : (extents : List Extent) (len : ℕ) (fit : Option ℕ) → IfSome fit (IsFirstFit (is_free extents) len alignment) → IfNone fit (NoneFits (is_free extents) len alignment) → IsFitIn extents len fit
+fit_by extents len None some none = none
+fit_by extents len (Some at) some none = some
+
+-- the region at a place has the index
+region_found : (inside : Inside) (index place : ℕ) (kept : RegionLabels) → place < length inside.regions.items → kept ≡ get_or inside.regions.items place kept → IsPlaceOf (map region_in inside.regions.items) index (Some place)
+    → region_at (platform_of inside.regions.items) index ≡ Some kept.region
+region_found inside index place kept lt is_region found =
+    let at : get_or (map region_in inside.regions.items) place kept.region ≡ kept.region = get_or-map region_in inside.regions.items place kept kept.region lt ∙ ap region_in (sym is_region) in
+    found.1 kept.region ∙ ap Some at
+
+-- and its free space is kept beside it
+free_found : (inside : Inside) (place : ℕ) (kept : RegionLabels) (free : FreeSpace) → IsKept inside → place < length inside.regions.items → kept ≡ get_or inside.regions.items place kept → free ≡ get_or inside.free.items place free
+    → IsFree inside.modules.items inside.regions.items kept free
+free_found inside place kept free is_kept lt is_region is_free =
+    subst (λ f. IsFree inside.modules.items inside.regions.items kept f) (sym is_free) (subst (λ k. IsFree inside.modules.items inside.regions.items k (get_or inside.free.items place free)) (sym is_region) (is_kept.free.is place kept free lt))
 
 module _ (inside : Inside) (sets : StoredSets) (same : shown inside ≡ sets) (index : ℕ) where
   pub tells_none : IsPlaceOf (map region_in inside.regions.items) index None → TellsLargest sets index None
@@ -35,9 +63,28 @@ module _ (inside : Inside) (sets : StoredSets) (same : shown inside ≡ sets) (i
   tells_largest place kept free is_kept lt is_region is_free found size size_is =
       let P = platform_of inside.regions.items in
       let L = modules.labels_in inside.modules.items in
-      let at : get_or (map region_in inside.regions.items) place kept.region ≡ kept.region = get_or-map region_in inside.regions.items place kept kept.region lt ∙ ap region_in (sym is_region) in
-      let region : region_at P index ≡ Some kept.region = found.1 kept.region ∙ ap Some at in
-      let whole : IsFree inside.modules.items inside.regions.items kept free =
-      subst (λ f. IsFree inside.modules.items inside.regions.items kept f) (sym is_free) (subst (λ k. IsFree inside.modules.items inside.regions.items k (get_or inside.free.items place free)) (sym is_region) (is_kept.free.is place kept free lt)) in
+      let region : region_at P index ≡ Some kept.region = region_found inside index place kept lt is_region found in
+      let whole = free_found inside place kept free is_kept lt is_region is_free in
       subst (λ (s : StoredSets). TellsLargest s index (Some size)) same (subst (λ (r : Option Region). IsLargestOf P L r (Some size)) (sym region)
       (λ extents are. size_is ∙ ap (λ n. min (length kept.region.members * n) (2 ^ 64 - 1)) (kept_is P L kept.region free whole.extents extents are)))
+
+  pub fits_none : IsPlaceOf (map region_in inside.regions.items) index None → (len : ℕ) → FitsFirst sets index len None
+  fits_none none len = subst (λ (s : StoredSets). FitsFirst s index len None) same (subst (λ (found : Option Region). FitsFirstIn (platform_in (shown inside)) (labels_in (shown inside)) len found None) (sym none) refl)
+
+  pub fits_first : (place : ℕ) (kept : RegionLabels) (free : FreeSpace) → IsKept inside → place < length inside.regions.items → kept ≡ get_or inside.regions.items place kept → free ≡ get_or inside.free.items place free
+      → IsPlaceOf (map region_in inside.regions.items) index (Some place) → (len : ℕ) (fit : Option ℕ) → IsFitIn free.extents len fit → FitsFirst sets index len fit
+  fits_first place kept free is_kept lt is_region is_free found len fit fits =
+      let P = platform_of inside.regions.items in
+      let L = modules.labels_in inside.modules.items in
+      let r = kept.region in
+      let whole = free_found inside place kept free is_kept lt is_region is_free in
+      subst (λ (s : StoredSets). FitsFirst s index len fit) same (subst (λ (o : Option Region). FitsFirstIn P L len o fit) (sym (region_found inside index place kept lt is_region found))
+      (λ extents are. subst (λ es. IsFitIn es len fit) (maximal-one (part_size r) (is_common_free P L r) free.extents extents whole.extents are) fits))
+
+  pub kept_region : (place : ℕ) (kept : RegionLabels) → IsKept inside → place < length inside.regions.items → kept ≡ get_or inside.regions.items place kept → IsPlaceOf (map region_in inside.regions.items) index (Some place)
+      → IsKeptRegion sets index kept
+  kept_region place kept is_kept lt is_region found =
+      subst (λ (s : StoredSets). IsKeptRegion s index kept) same (record {
+        over = subst (IsOver inside.modules.items) (sym is_region) (All-get_or (IsOver inside.modules.items) inside.regions.items place kept lt is_kept.over);
+        found = region_found inside index place kept lt is_region found;
+      })

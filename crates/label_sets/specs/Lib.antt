@@ -5,3 +5,4 @@ pub mod Room
 pub mod Kept
 pub mod Views
 pub mod Largest
+pub mod Lookups

@@ -6,7 +6,7 @@ use crate::sets::Sets;
 use crate::views::place_of;
 
 /// What namespaces are aligned to, in bytes of each member's part: 2 MiB.
-const ALIGNMENT: u64 = 0x20_0000;
+pub(crate) const ALIGNMENT: u64 = 0x20_0000;
 
 impl Sets {
     /// The size in bytes of the greatest namespace that the free extents of a region have room for, or the greatest

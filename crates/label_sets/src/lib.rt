@@ -3,6 +3,7 @@
 
 mod largest;
 mod load;
+mod lookups;
 mod read;
 mod room;
 mod sets;
