@@ -1,6 +1,6 @@
 -- What is kept of an area that was loaded is what the area that is stored stands for.
-use Rattle.std.proofs.Common.{◌≡◌, ◌≢◌, ℕ, Bool, true, false, List, [], length, Option, Some, None, Result, Ok, Err, refl, sym, ap, ◌∙◌}
-use Rattle.std.specs.Prelude.{IfOk, unwrap_or}
+use Rattle.std.proofs.Common.{◌≡◌, ◌≢◌, ℕ, false, List, length, Option, Some, None, Result, Ok, Err, refl, sym, ap, ◌∙◌}
+use Rattle.std.specs.Prelude.{IfOk}
 use Rattle.std.specs.FinMap.{get}
 use Rattle.std.specs.Option.{option_and_then}
 use Rattle.rig_trait.specs.declared.shown.Shown.{Ghosts}
@@ -10,7 +10,6 @@ use Rattle.index_block.specs.declared.geometry.Geometry.{Geometry}
 use Rattle.index_block.specs.Geometry.{geometry_of}
 use Rattle.module_labels.specs.declared.kind.AreaKind.{AreaKind}
 use Rattle.module_labels.specs.declared.kind.AreaKind.TheVariants as kind
-use Rattle.module_labels.specs.Labels.{Module}
 use Rattle.label_area.specs.declared.blocks.Current.{Current}
 use Rattle.label_area.specs.declared.load.AreaFault.{AreaFault}
 use Rattle.label_area.specs.declared.load.AreaFault.TheVariants as fault

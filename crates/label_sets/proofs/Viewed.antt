@@ -1,6 +1,6 @@
 -- What is shown of a region or a module by what is kept is shown of the state.
-use Rattle.std.proofs.Common.{◌≡◌, ℕ, ◌<◌, List, [], length, get_or, map, Option, None, refl, sym, ap, subst, ◌∙◌, arith}
-use Rattle.std.proofs.lemmas.List.{get_or-map, get_or_read, length-map}
+use Rattle.std.proofs.Common.{◌≡◌, ℕ, ◌<◌, List, [], length, get_or, map, None, refl, sym, ap, subst, ◌∙◌, arith}
+use Rattle.std.proofs.lemmas.List.{get_or-map, length-map}
 use Rattle.view_types.specs.declared.extents.Extent.{Extent}
 use Rattle.view_types.specs.declared.namespaces.Held.{Held}
 use Rattle.view_types.specs.declared.states.Status.{Status}

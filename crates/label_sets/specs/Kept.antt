@@ -1,8 +1,7 @@
--- What is kept beside the modules: the index and the free extents of each region.
-use Rattle.std.specs.Prelude.{◌≡◌, ℕ, ◌<◌, ◌^◌, List, length, map, slice_index_or}
+-- What is kept beside the modules: the index and the free extents of each region, and room for changes.
+use Rattle.std.specs.Prelude.{◌≡◌, ℕ, ◌<◌, ◌^◌, true, List, length, map, slice_index_or, vec_capacity}
 use Rattle.std.specs.List.{All}
 use Rattle.extent_alloc.specs.Free.{FreeSpace}
-use Rattle.region_map.specs.declared.platform.Region.{Region}
 use Rattle.label_table.specs.Division.{AreFreeExtents, part_size}
 use Rattle.region_sets.specs.declared.modules.LoadedModule.{LoadedModule}
 use Rattle.region_sets.specs.declared.region.RegionLabels.{RegionLabels}
@@ -10,6 +9,7 @@ use Rattle.region_sets.specs.Fates.{platform_of, region_in}
 use Rattle.region_sets.specs.Modules.{labels_in}
 use Rattle.region_sets.specs.Regions.{IsOver}
 use Rattle.label_sets.specs.declared.sets.Sets.TheInside.{Inside}
+use Rattle.label_sets.specs.Room.{HasRoom, HasSlotsWithin}
 use Rattle.label_sets.specs.Sets.{StoredSets}
 
 -- the free space of a region is what the labels of all modules leave
@@ -35,3 +35,6 @@ pub record IsKept (sets : Inside) : Type 0 where
   pub over : All (IsOver sets.modules.items) sets.regions.items
   pub free : AllFree sets.modules.items sets.regions.items sets.free.items
   pub few : All HasFewMembers sets.regions.items
+  -- the slots of any module can be listed without memory
+  pub slots : All (HasSlotsWithin (vec_capacity sets.slots)) sets.modules.items
+  pub room : sets.room ≡ true → HasRoom sets.regions.items sets.free.items

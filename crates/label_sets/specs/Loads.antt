@@ -1,5 +1,5 @@
 -- What is loaded of the areas of all modules.
-use Rattle.std.specs.Prelude.{◌≡◌, ℕ, ◌==◌, Bool, true, false, List, Result, Ok, Err, Some, if◌then◌else◌}
+use Rattle.std.specs.Prelude.{◌≡◌, ℕ, ◌==◌, true, false, List, Result, Ok, Err, Some, if◌then◌else◌}
 use Rattle.std.specs.FinMap.{get}
 use Rattle.std.specs.List.{list_any}
 use Rattle.rig_trait.specs.declared.shown.Shown.{Ghosts}
@@ -50,3 +50,13 @@ abbrev pub HasCause : {R T : Type 0} → Ghosts R → R → R → Result T SetFa
 HasCause m old new (Ok value) = FailsAt 0 m old new false
 HasCause m old new (Err (Failed dimm)) = FailsAt dimm m old new true
 HasCause m old new (Err Memory) = FailsAt 0 m old new false
+
+-- a module whose area failed to be read is the one with this device handle
+abbrev pub IsAt : ℕ → SetFault → Type 0
+IsAt handle (Failed dimm) = dimm ≡ handle
+IsAt handle Memory = Unit {0}
+
+-- or one of these
+abbrev pub IsAmong : List ℕ → SetFault → Type 0
+IsAmong handles (Failed dimm) = list_any (λ handle. handle == dimm) handles ≡ true
+IsAmong handles Memory = Unit {0}

@@ -8,7 +8,6 @@ use Rattle.view_types.specs.declared.states.Status.{Status}
 use Rattle.view_types.specs.declared.states.Status.TheVariants as shown
 use Rattle.view_types.specs.declared.views.ModuleView.{ModuleView}
 use Rattle.view_types.specs.declared.views.RegionView.{RegionView}
-use Rattle.module_labels.specs.declared.kind.AreaKind.{AreaKind}
 use Rattle.module_labels.specs.Labels.{Labels, is_ready}
 use Rattle.region_map.specs.declared.platform.Platform.{Platform}
 use Rattle.region_map.specs.declared.platform.Region.{Region}

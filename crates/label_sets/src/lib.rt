@@ -1,8 +1,10 @@
 //! The state that the label storage areas of all modules stand for, as it is read and shown (UEFI 2.7, section 13.19).
 #![tactic(auto)]
 
+mod largest;
 mod load;
 mod read;
+mod room;
 mod sets;
 mod views;
 

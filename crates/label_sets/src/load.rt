@@ -1,10 +1,10 @@
 //! The areas of all modules are loaded.
 
-ghost use Rattle.std.specs.Prelude.{◌≡◌, IfOk, map};
+ghost use Rattle.std.specs.Prelude.{◌≡◌, ◌+◌, ◌*◌, ◌≤◌, IfErr, IfOk, length, map};
 ghost use Rattle.std.specs.List.{All};
 ghost use Rattle.rig_trait.specs.Frames.{IsTold, Reads};
 ghost use Rattle.region_sets.specs.Modules.{dimm_of};
-ghost use Rattle.label_sets.specs.Loads.{HasCause, StandsIn, area_by};
+ghost use Rattle.label_sets.specs.Loads.{HasCause, IsAt, IsAmong, StandsIn, area_by};
 ghost use Rattle.label_sets.specs.declared.load.SetFault.TheVariants.{Memory};
 
 use label_area::{Area, AreaFault};
@@ -47,6 +47,8 @@ pub(crate) fn load_modules<R: Rig>(
     ensures handles { IfOk result (λ modules. map dimm_of modules.items ≡ handles.now) }
     ensures reads_only { Reads R.Shown rig.old rig.new }
     ensures cause { HasCause R.Shown rig.old rig.new result }
+    ensures among { IfErr result (IsAmong handles.now) }
+    ensures reads { R.reads rig.new ≤ R.reads rig.old + 2 * length handles.now }
 {
     let mut modules = Vec::with_capacity(alloc, handles.len())?;
     for dimm in handles {
@@ -61,6 +63,8 @@ fn load_module<R: Rig>(alloc: Global, rig: &mut R, dimm: u32) -> Result<LoadedMo
     ensures dimm { IfOk result (λ loaded. loaded.dimm ≡ dimm) }
     ensures reads_only { Reads R.Shown rig.old rig.new }
     ensures cause { HasCause R.Shown rig.old rig.new result }
+    ensures at { IfErr result (IsAt dimm) }
+    ensures reads { R.reads rig.new ≤ R.reads rig.old + 2 }
 {
     let loaded = Area::load(alloc, rig, dimm);
     match area_of(dimm, loaded) {
@@ -71,7 +75,8 @@ fn load_module<R: Rig>(alloc: Global, rig: &mut R, dimm: u32) -> Result<LoadedMo
 
 /// What is kept of an area that was loaded.
 fn area_of(dimm: u32, loaded: Result<Area, AreaFault>) -> Result<ModuleArea, SetFault>
-    ensures { result ≡ area_by dimm loaded }
+    ensures area { result ≡ area_by dimm loaded }
+    ensures at { IfErr result (IsAt dimm) }
 {
     match loaded {
         Ok(area) => Ok(ModuleArea::Ready(area)),

@@ -1,6 +1,6 @@
 //! The state is read.
 
-ghost use Rattle.std.specs.Prelude.{◌≡◌, IfOk, false, map};
+ghost use Rattle.std.specs.Prelude.{◌≡◌, ◌+◌, ◌*◌, ◌≤◌, IfErr, IfOk, false, length, map};
 ghost use Rattle.std.specs.List.{All};
 ghost use Rattle.region_map.specs.Platforms.{IsSound};
 ghost use Rattle.rig_trait.specs.Frames.{IsTold, Reads};
@@ -8,10 +8,11 @@ ghost use Rattle.region_sets.specs.Fates.{region_in};
 ghost use Rattle.region_sets.specs.Modules.{dimm_of};
 ghost use Rattle.region_sets.specs.Regions.{IsOver};
 ghost use Rattle.label_sets.specs.Kept.{AllFree, HasFewMembers};
-ghost use Rattle.label_sets.specs.Loads.{HasCause, StandsIn, stored_labels};
+ghost use Rattle.label_sets.specs.Loads.{HasCause, IsAmong, StandsIn, stored_labels};
 ghost use Rattle.label_sets.specs.Sets.{labels_in};
 
 use crate::load::{SetFault, load_modules};
+use crate::room::slot_list;
 use crate::sets::Sets;
 use extent_alloc::Extents;
 use region_map::Platform;
@@ -31,11 +32,14 @@ pub fn read_state<R: Rig>(alloc: Global, platform: &Platform, rig: &mut R) -> Re
     ensures room { IfOk result (λ sets. sets.room ≡ false) }
     ensures reads_only { Reads R.Shown rig.old rig.new }
     ensures cause { HasCause R.Shown rig.old rig.new result }
+    ensures among { IfErr result (IsAmong platform.now.modules) }
+    ensures reads { R.reads rig.new ≤ R.reads rig.old + 2 * length platform.now.modules }
 {
     let modules = load_modules(alloc, rig, platform.modules.as_slice())?;
     let regions = regions_over(alloc, &modules, platform)?;
     let free = free_in(alloc, &modules, &regions)?;
-    Ok(Sets::of(modules, regions, free))
+    let slots = slot_list(alloc, &modules)?;
+    Ok(Sets::of(modules, regions, free, slots))
 }
 
 /// The regions of a platform over its modules.

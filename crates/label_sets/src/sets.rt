@@ -1,13 +1,18 @@
 //! The state of all modules.
 
-ghost use Rattle.std.specs.Prelude.{◌≡◌, false, map};
+ghost use Rattle.std.specs.Prelude.{◌≡◌, OnErr, OnOk, false, length, map, slice_get, true, vec_capacity};
 ghost use Rattle.std.specs.List.{All};
+ghost use Rattle.std.specs.Option.{option_map};
 ghost use Rattle.region_sets.specs.Fates.{region_in};
 ghost use Rattle.region_sets.specs.Regions.{IsOver};
 ghost use Rattle.label_sets.specs.Kept.{AllFree, HasFewMembers};
+ghost use Rattle.label_sets.specs.Room.{HasSlotsWithin};
+ghost use Rattle.label_sets.specs.Sets.{index_of};
 
+use crate::room::{reserve_extents, reserve_labels};
 use extent_alloc::Extents;
 use region_sets::{LoadedModule, RegionLabels};
+use std::alloc::AllocError;
 use std::marker::Model;
 
 /// The state that the label storage areas of a platform's modules stand for.
@@ -17,7 +22,9 @@ pub struct Sets {
     pub(crate) regions: Vec<RegionLabels>,
     /// The free extents of each region.
     pub(crate) free: Vec<Extents>,
-    room: bool,
+    /// The list of slots that one flip frees. It has the memory for all slots of any module.
+    pub(crate) slots: Vec<u32>,
+    pub(crate) room: bool,
 }
 
 impl Model for Sets {
@@ -40,10 +47,12 @@ impl Sets {
         modules: Vec<LoadedModule>,
         regions: Vec<RegionLabels>,
         free: Vec<Extents>,
+        slots: Vec<u32>,
     ) -> Sets
         requires over { All (IsOver modules.items) regions.items }
         requires free { AllFree modules.items regions.items free.items }
         requires few { All HasFewMembers regions.items }
+        requires slots { All (HasSlotsWithin (vec_capacity slots)) modules.items }
         ensures { result ≡
             record { regions = map region_in regions.items; modules = modules.items; room = false } }
     {
@@ -51,7 +60,40 @@ impl Sets {
             modules,
             regions,
             free,
+            slots,
             room: false,
+        }
+    }
+
+    /// Takes the memory that the next change of the labels of one region may need. After a refusal of memory the state
+    /// is as before.
+    pub fn reserve(&mut self) -> Result<(), AllocError>
+        ensures ok { OnOk result (self.new ≡ record self.old { room = true }) }
+        ensures err { OnErr result (self.new ≡ self.old) }
+    {
+        if self.room {
+            return Ok(());
+        }
+        reserve_labels(&mut self.regions)?;
+        reserve_extents(&self.regions, &mut self.free)?;
+        self.room = true;
+        Ok(())
+    }
+
+    /// The number of regions.
+    pub fn region_count(&self) -> usize
+        ensures { result ≡ length self.now.regions }
+    {
+        self.regions.len()
+    }
+
+    /// The index of the region at a place among the regions. `None` exactly where there are not so many.
+    pub fn region_index(&self, at: usize) -> Option<u16>
+        ensures { result ≡ option_map index_of (slice_get self.now.regions at) }
+    {
+        match self.regions.get(at) {
+            Some(kept) => Some(kept.region.index),
+            None => None,
         }
     }
 }

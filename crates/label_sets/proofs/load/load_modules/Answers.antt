@@ -1,10 +1,9 @@
-use Rattle.std.proofs.Common.{◌≡◌, ◌<◌, ◌++◌, ◌∷◌, [], List, length, map, take, sym, ap, subst, ◌∙◌, arith}
+use Rattle.std.proofs.Common.{◌++◌, ◌∷◌, [], map, sym, ap, subst, ◌∙◌, arith}
 use Rattle.std.specs.List.{All}
 use Rattle.std.proofs.lemmas.List.{map-append, take_more}
 use Rattle.std.proofs.lemmas.List.Elements.{All-push}
 use Rattle.rig_trait.specs.Areas.{Areas}
 use Rattle.rig_trait.proofs.Frames.{reads_on}
-use Rattle.region_sets.specs.declared.modules.LoadedModule.{LoadedModule}
 use Rattle.region_sets.specs.Modules.{dimm_of}
 use Rattle.label_sets.specs.Loads.{StandsIn}
 use Rattle.label_sets.proofs.load.load_modules.Goals as goal
@@ -26,4 +25,5 @@ loop-dimm-preserved g c =
       handles =
           ap (map dimm_of) items ∙ map-append dimm_of old (loaded ∷ []) ∙ (λ i. before.handles i ++ turn.dimm i ∷ [])
           ∙ sym (take_more c.args.handles.now c.loop-dimm.dimm-index 0 c.loop-dimm-test.true);
+      reads = omega (arith, before.reads, turn.reads);
     }

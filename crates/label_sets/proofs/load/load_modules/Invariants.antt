@@ -1,4 +1,4 @@
-use Rattle.std.proofs.Common.{◌≡◌, false, take}
+use Rattle.std.proofs.Common.{◌≡◌, ◌+◌, ◌*◌, ◌≤◌, false, take}
 use Rattle.std.specs.Prelude.{map}
 use Rattle.std.specs.List.{All}
 use Rattle.rig_trait.specs.Frames.{IsTold, Reads, FailsAt}
@@ -12,4 +12,5 @@ invariant-loop-dimm g l = record {
   cause : FailsAt 0 g.R.Shown l.fn.rig l.rig false;
   stands : IsTold g.R.Shown l.fn.rig → All (StandsIn (g.R.Shown.areas l.fn.rig)) l.modules.items;
   handles : map dimm_of l.modules.items ≡ take l.dimm-index l.handles;
+  reads : g.R.Shown.reads l.rig ≤ g.R.Shown.reads l.fn.rig + 2 * l.dimm-index;
 }

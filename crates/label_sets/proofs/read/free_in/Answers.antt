@@ -1,8 +1,5 @@
-use Rattle.std.proofs.Common.{◌≡◌, ℕ, ◌+◌, ◌<◌, ◌++◌, ◌∷◌, [], List, length, get_or, map, sym, ap, subst, ◌∙◌, arith}
-use Rattle.std.proofs.lemmas.List.{get_or_read}
-use Rattle.extent_alloc.specs.Free.{FreeSpace}
+use Rattle.std.proofs.Common.{map, ap, ◌∙◌, arith}
 use Rattle.label_table.specs.Namespaces.{namespaces}
-use Rattle.region_sets.specs.declared.region.RegionLabels.{RegionLabels}
 use Rattle.region_sets.specs.Modules.{labels_in}
 use Rattle.region_sets.specs.Statuses.{space_in}
 use Rattle.region_sets.proofs.Sorted.{unlisted}

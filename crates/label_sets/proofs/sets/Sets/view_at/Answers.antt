@@ -1,10 +1,7 @@
-use Rattle.std.proofs.Common.{◌≡◌, ◌<◌, List, length, get_or, map, refl, sym, ap, subst, ◌∙◌, arith}
-use Rattle.std.proofs.lemmas.List.{get_or_read}
+use Rattle.std.proofs.Common.{◌<◌, length, get_or, map, refl, sym, ap, subst, ◌∙◌, arith}
 use Rattle.extent_alloc.specs.Free.{FreeSpace}
-use Rattle.label_table.specs.Division.{AreFreeExtents}
 use Rattle.label_table.specs.Namespaces.{namespaces}
 use Rattle.label_table.specs.Statuses.{status}
-use Rattle.region_sets.specs.declared.modules.LoadedModule.{LoadedModule}
 use Rattle.region_sets.specs.declared.region.RegionLabels.{RegionLabels}
 use Rattle.region_sets.specs.Fates.{platform_of}
 use Rattle.region_sets.specs.Marks.{listed_in}

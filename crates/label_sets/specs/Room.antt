@@ -1,0 +1,33 @@
+-- The memory that is taken before a change.
+use Rattle.std.specs.Prelude.{ℕ, ◌<◌, ◌≤◌, List, length, slice_index_or}
+use Rattle.std.specs.List.{All}
+use Rattle.extent_alloc.specs.Free.{FreeSpace}
+use Rattle.region_sets.specs.declared.modules.LoadedModule.{LoadedModule}
+use Rattle.region_sets.specs.declared.region.RegionLabels.{RegionLabels}
+use Rattle.region_sets.specs.Modules.{module_in}
+
+-- all slots of the module can be listed in so much
+abbrev pub HasSlotsWithin : ℕ → LoadedModule → Type 0
+HasSlotsWithin most loaded = (module_in loaded).slots ≤ most
+
+-- the index has room for one label more of each member's module
+abbrev pub HasLabelRoom : RegionLabels → Type 0
+HasLabelRoom kept = length kept.region.members ≤ kept.index.room
+
+-- there is room for as many extents more as the region has live labels, and for one beside them
+abbrev pub HasExtentRoom : RegionLabels → FreeSpace → Type 0
+HasExtentRoom kept free = length kept.index.entries < free.spare
+
+-- there is room for a change of each region
+pub record HasRoom (regions : List RegionLabels) (free : List FreeSpace) : Type 0 where
+  pub labels : All HasLabelRoom regions
+  pub extents : (place : ℕ) (d : RegionLabels) (e : FreeSpace) → place < length regions
+      → HasExtentRoom (slice_index_or regions place d) (slice_index_or free place e)
+
+-- all of a region but the room of its index
+abbrev pub without_room : RegionLabels → RegionLabels
+without_room kept = record kept { index = record kept.index { room = 0 } }
+
+-- all of the free space but the room for more extents
+abbrev pub without_spare : FreeSpace → FreeSpace
+without_spare free = record free { spare = 0 }

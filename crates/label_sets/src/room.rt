@@ -1,0 +1,72 @@
+//! The memory that is taken before a change, so that no want of it can end a change half-way.
+
+ghost use Rattle.std.specs.Prelude.{◌≡◌, ◌<◌, ℕ, IfOk, OnOk, length, map, slice_index_or, vec_capacity};
+ghost use Rattle.std.specs.List.{All};
+ghost use Rattle.extent_alloc.specs.Free.{FreeSpace};
+ghost use Rattle.region_sets.specs.declared.region.RegionLabels.{RegionLabels};
+ghost use Rattle.region_sets.specs.Modules.{module_in};
+ghost use Rattle.label_sets.specs.Room.{HasExtentRoom, HasLabelRoom, HasSlotsWithin, without_room, without_spare};
+
+use extent_alloc::Extents;
+use region_sets::{LoadedModule, RegionLabels};
+use std::alloc::{AllocError, Global};
+
+/// An empty list with room for all slots of any of these modules.
+pub(crate) fn slot_list(alloc: Global, modules: &[LoadedModule]) -> Result<Vec<u32>, AllocError>
+    ensures { IfOk result (λ slots. All (HasSlotsWithin (vec_capacity slots)) modules.now) }
+{
+    Vec::with_capacity(alloc, most_slots(modules) as usize)
+}
+
+/// The greatest number of slots of a module.
+fn most_slots(modules: &[LoadedModule]) -> u32
+    ensures { All (HasSlotsWithin result) modules.now }
+{
+    let mut most = 0;
+    for loaded in modules {
+        most = loaded.slots().max(most);
+    }
+    most
+}
+
+/// Makes room in the index of each region for one more label of each of its modules.
+pub(crate) fn reserve_labels(regions: &mut [RegionLabels]) -> Result<(), AllocError>
+    ensures same { map without_room regions.new ≡ map without_room regions.old }
+    ensures room { OnOk result (All HasLabelRoom regions.new) }
+{
+    for at in 0..regions.len() {
+        reserve_label(&mut regions[at])?;
+    }
+    Ok(())
+}
+
+fn reserve_label(kept: &mut RegionLabels) -> Result<(), AllocError>
+    ensures same { without_room kept.new ≡ without_room kept.old }
+    ensures room { OnOk result (HasLabelRoom kept.new) }
+{
+    let members = kept.region.members.len();
+    kept.index.reserve(members)
+}
+
+/// Makes room in the free space of each region for as many extents more as the region has live labels, and one.
+pub(crate) fn reserve_extents(
+    regions: &[RegionLabels],
+    free: &mut [Extents],
+) -> Result<(), AllocError>
+    requires { length free.old ≡ length regions.now }
+    ensures same { map without_spare free.new ≡ map without_spare free.old }
+    ensures room { OnOk result ((place : ℕ) (d : RegionLabels) (e : FreeSpace) → place < length regions.now
+        → HasExtentRoom (slice_index_or regions.now place d) (slice_index_or free.new place e)) }
+{
+    for at in 0..regions.len() {
+        reserve_extent(&regions[at], &mut free[at])?;
+    }
+    Ok(())
+}
+
+fn reserve_extent(kept: &RegionLabels, free: &mut Extents) -> Result<(), AllocError>
+    ensures same { without_spare free.new ≡ without_spare free.old }
+    ensures room { OnOk result (HasExtentRoom kept.now free.new) }
+{
+    free.reserve(kept.index.entries().len() + 1)
+}
