@@ -28,7 +28,12 @@ use Rattle.label_table.proofs.Staging.{staged-gains}
 use Rattle.label_table.proofs.Listed.{namespaces-same, namespaces-with, namespaces-without, space-whole, space-within}
 use Rattle.label_table.proofs.StatusLaws.{common_free-kept, space-elsewhere, space-new, space-others}
 use Rattle.label_table.proofs.TableChanges.{changes-with_changed_space, changes-with_space, changes-without_space}
+use Rattle.region_sets.specs.Fates.{with_regions}
 use Rattle.region_changes.specs.Spaces.{GainsNamespace, IsAlone, LosesNamespace, ShowsNew}
+
+-- what the regions are alone
+pub regions-disjoint : (P : Platform) → IsDisjoint P → IsDisjoint (with_regions P.regions)
+regions-disjoint P d = record { indexes = d.indexes; positions = d.positions; bytes = d.bytes }
 
 -- A list of free extents is one of labels with the same table, too.
 pub extents-kept : (P : Platform) → IsDisjoint P → (L M : Labels) → table P M ≡ table P L → (q : Region)
@@ -161,7 +166,8 @@ module _ (P : Platform) (r : Region) (old : Space) (L M : Labels) (l : LosesName
           let low : old.offset ≤ o = range.0 in
           let high : o < old.offset + old.length = range.1 in
           let one : namespaces_over L r o ≡ 1 = alone.only o low high in
-          let split : namespaces_over L r o ≡ 1 + namespaces_over M r o = over o ∙ (λ i. cond {A = ℕ} (here i) 1 0 + namespaces_over M r o) in
+          let split : namespaces_over L r o ≡ 1 + namespaces_over M r o =
+          over o ∙ (λ i. cond {A = ℕ} (here i) 1 0 + namespaces_over M r o) in
           (lt_from o (part_size r) (omega arith), omega arith, ap not (alone.not_held o low high))
 
       at : (o : ℕ) → is_common_free P M r o ≡ with_range (is_common_free P L r) old.offset old.length o

@@ -66,9 +66,9 @@ zip-right R P gives [] (y ∷ ys) all = absurd all
 zip-right R P gives (x ∷ xs) [] all = absurd all
 zip-right R P gives (x ∷ xs) (y ∷ ys) all = All-cons P y ys (gives x y all.0) (zip-right R P gives xs ys all.1)
 
-pub zip-carry : {X : Type 0} (R : X → X → Type 0) (P : X → Type 0) → ((x y : X) → R x y → P x → P y)
-    → (xs ys : List X) → AllZip R xs ys → All P xs → All P ys
-zip-carry R P carry xs ys zip all = λ k d lt.
+pub zip-carry : {X : Type 0} (R : X → X → Type 0) (P Q : X → Type 0) → ((x y : X) → R x y → P x → Q y)
+    → (xs ys : List X) → AllZip R xs ys → All P xs → All Q ys
+zip-carry R P Q carry xs ys zip all = λ k d lt.
     let e : length xs ≡ length ys = length_all_zip R xs ys zip in
     let below : k < length xs = omega arith in
     carry (get_or xs k d) (get_or ys k d) (AllZip-get_or R xs ys k d d zip below) (all k d below)

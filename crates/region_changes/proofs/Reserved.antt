@@ -32,7 +32,7 @@ keeps-over modules old new keeps over = record {
 
 pub zip-over : (old new : List RegionLabels) → AllZip KeepsEntries old new → (modules : List LoadedModule)
     → All (IsOver modules) old → All (IsOver modules) new
-zip-over old new zip modules all = zip-carry KeepsEntries (IsOver modules) (keeps-over modules) old new zip all
+zip-over old new zip modules all = zip-carry KeepsEntries (IsOver modules) (IsOver modules) (keeps-over modules) old new zip all
 
 -- all that were reserved
 pub reserved-kept : (old now : List RegionLabels) → AreChanged IsReserved old (length old) now → AllZip KeepsEntries old now

@@ -1,12 +1,16 @@
 -- The room that labels of several modules take.
-use Rattle.std.proofs.Common.{◌≡◌, ◌≢◌, inl, inr, ℕ, suc, ◌+◌, ◌<◌, ◌≤◌, cond, eqb, List, [], ◌∷◌, length, get_or, refl, sym, subst, ◌∙◌, eq-eqb, arith}
-use Rattle.std.specs.List.{count_by, sum_by}
+use Rattle.std.proofs.Common.{◌≡◌, ◌≢◌, inl, inr, ℕ, suc, ◌+◌, ◌-◌, ◌<◌, ◌≤◌, cond, eqb, None, Some, List, [], ◌∷◌, length, get_or, refl, sym, subst, ◌∙◌, eq-eqb, arith}
+use Rattle.std.specs.List.{All, AllZip, count_by, sum_by}
+use Rattle.std.proofs.lemmas.List.Elements.{All-weaker}
 use Rattle.std.proofs.lemmas.Bool.{cases_eq, cond-false, cond-true, ne_eqb}
 use Rattle.std.proofs.lemmas.List.Sums.{sum_by-cons}
 use Rattle.region_map.specs.declared.platform.Region.{Region}
+use Rattle.region_sets.specs.declared.region.RegionLabels.{RegionLabels}
 use Rattle.region_sets.specs.Regions.{handles}
 use Rattle.region_sets.proofs.Seated.{length-handles}
-use Rattle.region_changes.specs.Rooms.{position_count, room_for}
+use Rattle.region_changes.specs.Rooms.{HasRoom, HasRoomFor, HasRoomForAll, KeepsRegion, position_count, room_after_put, room_for}
+use Rattle.region_changes.specs.declared.by_slot.SlotLabel.{SlotLabel}
+use Rattle.region_changes.proofs.Looped.{zip-carry}
 use Rattle.region_changes.specs.SlotLabels.{AreApart}
 
 -- how often a handle stands among others
@@ -80,3 +84,33 @@ room-enough dimms region apart =
 pub room-next : (dimm : ℕ) (dimms : List ℕ) (region : Region)
     → room_for (dimm ∷ dimms) region ≡ position_count dimm region + room_for dimms region
 room-next dimm dimms region = sum_by-cons (λ d. position_count d region) dimm dimms
+
+-- The same for all regions.
+pub all-reserved : (dimms : List ℕ) (regions : List RegionLabels) → AreApart dimms → All HasRoom regions
+    → All (HasRoomForAll dimms) regions
+all-reserved dimms regions apart = All-weaker HasRoom (HasRoomForAll dimms)
+    (λ kept room. let enough = room-enough dimms kept.region apart in omega arith) regions
+
+pub all-first : (dimm : ℕ) (dimms : List ℕ) (regions : List RegionLabels)
+    → All (HasRoomForAll (dimm ∷ dimms)) regions → All (HasRoomFor dimm) regions
+all-first dimm dimms = All-weaker (HasRoomForAll (dimm ∷ dimms)) (HasRoomFor dimm)
+    (λ kept room. let next = room-next dimm dimms kept.region in omega arith)
+
+pub all-others : (dimm : ℕ) (dimms : List ℕ) (old new : List RegionLabels)
+    → AllZip (KeepsRegion (room_after_put dimm None)) old new → All (HasRoomForAll (dimm ∷ dimms)) old
+    → All (HasRoomForAll dimms) new
+all-others dimm dimms =
+    zip-carry (KeepsRegion (room_after_put dimm None)) (HasRoomForAll (dimm ∷ dimms)) (HasRoomForAll dimms)
+    (λ old new keeps room.
+    let next = room-next dimm dimms old.region in
+    let left : new.index.room ≡ old.index.room - position_count dimm old.region = keeps.room_is in
+    subst (λ r. room_for dimms r ≤ new.index.room) (sym keeps.region) (omega arith))
+
+pub all-replaced : (dimm : ℕ) (dimms : List ℕ) (lost : SlotLabel) (old new : List RegionLabels)
+    → AllZip (KeepsRegion (room_after_put dimm (Some lost))) old new → All (HasRoomForAll dimms) old
+    → All (HasRoomForAll dimms) new
+all-replaced dimm dimms lost =
+    zip-carry (KeepsRegion (room_after_put dimm (Some lost))) (HasRoomForAll dimms) (HasRoomForAll dimms)
+    (λ old new keeps room.
+    let left : new.index.room ≡ old.index.room = keeps.room_is in
+    subst (λ r. room_for dimms r ≤ new.index.room) (sym keeps.region) (omega arith))

@@ -1,5 +1,6 @@
 -- How an index follows one label of a module, position by position.
-use Rattle.std.specs.Prelude.{◌≡◌, ◌≢◌, ℕ, ◌+◌, ◌==◌, List, Option, None, Some, count_by, take, if◌then◌else◌, length, nat_lt, slice_index}
+use Rattle.std.specs.Prelude.{◌≡◌, ◌≢◌, ℕ, ◌+◌, ◌==◌, List, Option, None, Some, count_by, if◌then◌else◌}
+use Rattle.std.specs.Prelude.{length, nat_lt, slice_index, take}
 use Rattle.std.specs.List.{range_with_len}
 use Rattle.module_labels.specs.Labels.{Labels}
 use Rattle.region_map.specs.declared.platform.Region.{Region}

@@ -22,6 +22,10 @@ HasRoomFor dimm kept = position_count dimm kept.region ≤ kept.index.room
 abbrev pub HasRoom : RegionLabels → Type 0
 HasRoom kept = length kept.region.members ≤ kept.index.room
 
+-- or of each of some modules
+abbrev pub HasRoomForAll : List ℕ → RegionLabels → Type 0
+HasRoomForAll dimms kept = room_for dimms kept.region ≤ kept.index.room
+
 -- the region and its seats stay, and the index has this room then
 pub record KeepsRegion (room : RegionLabels → ℕ) (old new : RegionLabels) : Type 0 where
   pub region : new.region ≡ old.region

@@ -1,8 +1,9 @@
 //! Laws of changes. The functions do nothing: their clauses say what holds.
 
-ghost use Rattle.std.specs.Prelude.{◌≡◌, ◌≢◌, ℕ, ◌+◌, ◌<◌, ◌≤◌, ◌∷◌, List, None, Option, Some, length, map, slice_index_or, slice_set};
+ghost use Rattle.std.specs.Prelude.{◌≡◌, ◌≢◌, ℕ, ◌+◌, ◌<◌, ◌≤◌, ◌∷◌, List, None, Option, Some, length, map};
+ghost use Rattle.std.specs.Prelude.{slice_index_or, slice_set};
 ghost use Rattle.std.specs.FinMap.{get};
-ghost use Rattle.std.specs.List.{Contains};
+ghost use Rattle.std.specs.List.{All, AllZip, Contains};
 ghost use Rattle.view_types.specs.declared.extents.Extent.{Extent};
 ghost use Rattle.view_types.specs.Intervals.{AreMaximal, is_free, with_range, without_range};
 ghost use Rattle.label_codec.specs.declared.label.Label.{Label};
@@ -11,6 +12,7 @@ ghost use Rattle.module_labels.specs.Labels.{Labels};
 ghost use Rattle.region_map.specs.declared.platform.Member.{Member};
 ghost use Rattle.region_map.specs.declared.platform.Platform.{Platform};
 ghost use Rattle.region_map.specs.declared.platform.Region.{Region};
+ghost use Rattle.region_map.specs.Platforms as platforms;
 ghost use Rattle.label_area.specs.Flips.{after_free, after_put, first_slot, shown_by};
 ghost use Rattle.label_area.specs.LoadedAreas.{IsSound, LoadedArea};
 ghost use Rattle.label_table.specs.Belonging.{IsDisjoint};
@@ -19,10 +21,13 @@ ghost use Rattle.label_table.specs.Flips.{AddsOne};
 ghost use Rattle.label_table.specs.Spaces.{Space, space};
 ghost use Rattle.label_table.specs.Tables.{table};
 ghost use Rattle.region_sets.specs.declared.modules.LoadedModule.{LoadedModule};
+ghost use Rattle.region_sets.specs.declared.region.RegionLabels.{RegionLabels};
+ghost use Rattle.region_sets.specs.Fates.{with_regions};
 ghost use Rattle.region_sets.specs.Modules.{EachOnce, dimm_of, labels_in, module_in};
 ghost use Rattle.region_changes.specs.Changes.{IsChangedAt, dimm_at};
+ghost use Rattle.region_changes.specs.declared.by_slot.SlotLabel.{SlotLabel};
 ghost use Rattle.region_changes.specs.Flips.{LosesLabels, ReplacesLabel};
-ghost use Rattle.region_changes.specs.Rooms.{position_count, room_for};
+ghost use Rattle.region_changes.specs.Rooms.{HasRoom, HasRoomFor, HasRoomForAll, KeepsRegion, room_after_put};
 ghost use Rattle.region_changes.specs.SlotLabels.{AreApart, replaced_label, slot_labels};
 ghost use Rattle.region_changes.specs.Spaces.{GainsNamespace, IsAlone, LosesNamespace, ShowsNew};
 
@@ -57,18 +62,29 @@ pub fn module_laws()
         ≡ with_module (dimm_at before seat) (module_in (slice_index_or after seat d)) (labels_in before) }
 {}
 
-/// What room the labels of several modules take in the index of a region.
+/// What room labels of several modules have in the indexes of regions.
 pub fn room_laws()
-    ensures next { (dimm : ℕ) (dimms : List ℕ) (region : Region)
-        → room_for (dimm ∷ dimms) region ≡ position_count dimm region + room_for dimms region }
+    // One of each has what is reserved,
+    ensures reserved { (dimms : List ℕ) (regions : List RegionLabels) → AreApart dimms → All HasRoom regions
+        → All (HasRoomForAll dimms) regions }
 
-    // One of each of some modules takes no more than the region has members.
-    ensures enough { (dimms : List ℕ) (region : Region) → AreApart dimms
-        → room_for dimms region ≤ length region.members }
+    // so the first can be put, and the others have room then.
+    ensures first { (dimm : ℕ) (dimms : List ℕ) (regions : List RegionLabels)
+        → All (HasRoomForAll (dimm ∷ dimms)) regions → All (HasRoomFor dimm) regions }
+    ensures others { (dimm : ℕ) (dimms : List ℕ) (old new : List RegionLabels)
+        → AllZip (KeepsRegion (room_after_put dimm None)) old new → All (HasRoomForAll (dimm ∷ dimms)) old
+        → All (HasRoomForAll dimms) new }
+    ensures replaced { (dimm : ℕ) (dimms : List ℕ) (lost : SlotLabel) (old new : List RegionLabels)
+        → AllZip (KeepsRegion (room_after_put dimm (Some lost))) old new → All (HasRoomForAll dimms) old
+        → All (HasRoomForAll dimms) new }
 {}
 
 /// What becomes of the free extents of regions.
 pub fn free_laws()
+    // The regions of a table are disjoint, also without its modules.
+    ensures disjoint { (platform : Platform) → platforms.IsSound platform
+        → IsDisjoint (with_regions platform.regions) }
+
     // They stay where the table stays.
     ensures kept { (platform : Platform) (before after : Labels) (region : Region) (extents : List Extent)
         → IsDisjoint platform → table platform after ≡ table platform before → Contains platform.regions region

@@ -1,7 +1,8 @@
 //! The entries of a label at all positions of its module.
 
 ghost use Rattle.std.specs.Prelude.{◌≡◌, ◌+◌, ◌<◌, ◌≤◌, None, length};
-ghost use Rattle.region_changes.specs.Followed.{FollowsGain, FollowsGainTo, FollowsLossTo, LosesIfAny, LosesLabel, here};
+ghost use Rattle.region_changes.specs.Followed.{FollowsGain, FollowsGainTo, FollowsLossTo};
+ghost use Rattle.region_changes.specs.Followed.{LosesIfAny, LosesLabel, here};
 ghost use Rattle.region_changes.specs.Rooms.{HasRoomFor, KeepsRegion, room_after_put};
 
 use crate::by_slot::SlotLabel;

@@ -1,4 +1,5 @@
-use Rattle.region_changes.proofs.FreeSpace.{completed, extents-kept, gained-elsewhere, gained-extents, lost-elsewhere, lost-extents, shown-all}
+use Rattle.label_table.proofs.SoundPlatforms.{sound-disjoint}
+use Rattle.region_changes.proofs.FreeSpace.{completed, extents-kept, gained-elsewhere, gained-extents, lost-elsewhere, lost-extents, regions-disjoint, shown-all}
 use Rattle.region_changes.proofs.laws.free_laws.Goals as goal
 
 pub returns-clause-kept : goal.returns-clause-kept
@@ -24,3 +25,6 @@ returns-clause-lost_elsewhere c = λ P r q gone L M extents loses in_q other are
 
 pub returns-clause-shown : goal.returns-clause-shown
 returns-clause-shown c = λ P r q old new L M extents shows in_q are. shown-all P r old new L M shows q in_q extents are
+
+pub returns-clause-disjoint : goal.returns-clause-disjoint
+returns-clause-disjoint c = λ P sound. regions-disjoint P (sound-disjoint P sound)
