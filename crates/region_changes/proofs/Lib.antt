@@ -1,0 +1,13 @@
+pub mod ByPosition
+pub mod ChangedModules
+pub mod LostLabels
+pub mod Counted
+pub mod Walked
+pub mod Looped
+pub mod Stepped
+pub mod AreaFlips
+pub mod RoomSums
+pub mod FreeSpace
+pub mod AllFollow
+pub mod Reserved
+pub mod Follows
