@@ -4,3 +4,8 @@ pub mod Platforms
 pub mod Frees
 pub mod Rooms
 pub mod Viewed
+pub mod Turned
+pub mod Unwanted
+pub mod Swept
+pub mod Flipped
+pub mod Freed

@@ -1,6 +1,6 @@
 -- What is kept of an area that was loaded is what the area that is stored stands for.
-use Rattle.std.proofs.Common.{◌≡◌, ◌≢◌, ℕ, false, List, length, Option, Some, None, Result, Ok, Err, refl, sym, ap, ◌∙◌}
-use Rattle.std.specs.Prelude.{IfOk}
+use Rattle.std.proofs.Common.{◌≡◌, ◌≢◌, ℕ, false, List, length, Option, Some, None, Result, Ok, Err, refl, sym, ap, subst, ◌∙◌}
+use Rattle.std.specs.Prelude.{IsSome, IfOk}
 use Rattle.std.specs.FinMap.{get}
 use Rattle.std.specs.Option.{option_and_then}
 use Rattle.rig_trait.specs.declared.shown.Shown.{Ghosts}
@@ -15,7 +15,7 @@ use Rattle.label_area.specs.declared.load.AreaFault.{AreaFault}
 use Rattle.label_area.specs.declared.load.AreaFault.TheVariants as fault
 use Rattle.label_area.specs.Blocks.{current_block, current_in}
 use Rattle.label_area.specs.Faults.{is_load_failed}
-use Rattle.label_area.specs.LoadedAreas.{LoadedArea}
+use Rattle.label_area.specs.LoadedAreas.{IsSound, LoadedArea}
 use Rattle.label_area.specs.Loads.{Loads}
 use Rattle.label_area.specs.Modules.{area_kind, live_by, module_at, module_of, slots_by}
 use Rattle.label_area.proofs.Shown.{ready_is}
@@ -24,6 +24,7 @@ use Rattle.region_sets.specs.declared.modules.ModuleArea.{ModuleArea}
 use Rattle.region_sets.specs.declared.modules.ModuleArea.TheVariants.{Missing, WrongSize, Uninit, Foreign, Ready}
 use Rattle.region_sets.specs.Modules.{module_in, without_labels}
 use Rattle.region_sets.specs.Modules as loaded
+use Rattle.label_sets.specs.Flips.{HasLabelsInUse, IsAreaOf}
 use Rattle.label_sets.specs.Loads.{HasCause, StandsIn, StoredAs, area_by}
 
 -- an area that is not Ready has no labels
@@ -77,3 +78,22 @@ module _ {R : Type 0} (m : Ghosts R) (old new : R) (dimm : ℕ) where
   loads-cause (Err (fault.Foreign size)) f = unnamed f
   loads-cause (Err fault.Failed) f = f
   loads-cause (Err fault.Memory) f = unnamed f
+
+-- its area is its own, and a slot with a label is in use
+pub loads-own : (dimm : ℕ) (result : Result LoadedArea AreaFault) → IfOk result (λ area. area.dimm ≡ dimm) → IfOk (area_by dimm result) (IsAreaOf dimm)
+loads-own dimm (Ok area) same = same
+loads-own dimm (Err fault.Missing) same = tt
+loads-own dimm (Err (fault.WrongSize size)) same = tt
+loads-own dimm (Err (fault.Uninit size)) same = tt
+loads-own dimm (Err (fault.Foreign size)) same = tt
+loads-own dimm (Err fault.Failed) same = tt
+loads-own dimm (Err fault.Memory) same = tt
+
+pub loads-in_use : (dimm : ℕ) (result : Result LoadedArea AreaFault) → IfOk result IsSound → IfOk (area_by dimm result) (λ area. HasLabelsInUse (record { dimm = dimm; area = area }))
+loads-in_use dimm (Ok area) sound = λ slot label is. sound.live_in_use slot (subst (λ o. IsSome o) (sym is) refl)
+loads-in_use dimm (Err fault.Missing) sound = λ slot label is. absurd cc
+loads-in_use dimm (Err (fault.WrongSize size)) sound = λ slot label is. absurd cc
+loads-in_use dimm (Err (fault.Uninit size)) sound = λ slot label is. absurd cc
+loads-in_use dimm (Err (fault.Foreign size)) sound = λ slot label is. absurd cc
+loads-in_use dimm (Err fault.Failed) sound = tt
+loads-in_use dimm (Err fault.Memory) sound = tt

@@ -12,7 +12,7 @@ ghost use Rattle.label_sets.specs.Loads.{HasCause, IsAmong, StandsIn, stored_lab
 ghost use Rattle.label_sets.specs.Sets.{labels_in};
 
 use crate::load::{SetFault, load_modules};
-use crate::room::slot_list;
+use crate::room::most_slots;
 use crate::sets::Sets;
 use extent_alloc::Extents;
 use region_map::Platform;
@@ -38,8 +38,10 @@ pub fn read_state<R: Rig>(alloc: Global, platform: &Platform, rig: &mut R) -> Re
     let modules = load_modules(alloc, rig, platform.modules.as_slice())?;
     let regions = regions_over(alloc, &modules, platform)?;
     let free = free_in(alloc, &modules, &regions)?;
-    let slots = slot_list(alloc, &modules)?;
-    Ok(Sets::of(modules, regions, free, slots))
+    let most = most_slots(&modules) as usize;
+    let slots = Vec::with_capacity(alloc, most)?;
+    let lost = Vec::with_capacity(alloc, most)?;
+    Ok(Sets::of(modules, regions, free, slots, lost))
 }
 
 /// The regions of a platform over its modules.
