@@ -37,7 +37,7 @@ apart : false ≡ true → ⊥
 apart e = cc
 
 -- a slot in use is one of the area's
-used-within : (stored : ModuleArea) (dimm slot : ℕ) → is_used_by stored slot ≡ true → slot < (module_in (record { dimm = dimm; area = stored })).slots
+pub used-within : (stored : ModuleArea) (dimm slot : ℕ) → is_used_by stored slot ≡ true → slot < (module_in (record { dimm = dimm; area = stored })).slots
 used-within Missing dimm slot used = absurd (apart used)
 used-within (WrongSize size) dimm slot used = absurd (apart used)
 used-within (Uninit size) dimm slot used = absurd (apart used)
@@ -65,7 +65,7 @@ still-stored areas now dimm (Ready area) same is =
     })
 
 -- the modules at two places are two
-apart-at : (ms : List LoadedModule) → EachOnce ms → (j k : ℕ) (d : LoadedModule) → j < length ms → k < length ms → j ≢ k → (get_or ms j d).dimm ≢ (get_or ms k d).dimm
+pub apart-at : (ms : List LoadedModule) → EachOnce ms → (j k : ℕ) (d : LoadedModule) → j < length ms → k < length ms → j ≢ k → (get_or ms j d).dimm ≢ (get_or ms k d).dimm
 apart-at ms once j k d j_lt k_lt differ same = elim (cases_lt j k) [
   | inl lt ↦ once.apart j k d lt k_lt same
   | inr le ↦ once.apart k j d (omega (arith, le, differ)) j_lt (sym same)

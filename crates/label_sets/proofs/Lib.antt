@@ -9,3 +9,5 @@ pub mod Unwanted
 pub mod Swept
 pub mod Flipped
 pub mod Freed
+pub mod Sweeping
+pub mod SweptSets
