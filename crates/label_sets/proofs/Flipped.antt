@@ -1,8 +1,8 @@
 -- A flip of the area of a module is one of the module.
-use Rattle.std.proofs.Common.{◌≡◌, ℕ, List, sym, ap, subst}
+use Rattle.std.proofs.Common.{◌≡◌, ℕ, List, sym, subst}
 use Rattle.rig_trait.specs.declared.shown.Shown.{Ghosts}
 use Rattle.rig_trait.specs.Frames.{LeavesOnly}
-use Rattle.label_area.specs.Flips.{LeftByFlip, Standing, after_free}
+use Rattle.label_area.specs.Flips.{LeftByFlip, after_free}
 use Rattle.label_area.specs.LoadedAreas.{LoadedArea}
 use Rattle.region_sets.specs.declared.modules.ModuleArea.{ModuleArea}
 use Rattle.region_sets.specs.declared.modules.ModuleArea.TheVariants.{Ready}

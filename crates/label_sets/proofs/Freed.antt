@@ -10,7 +10,6 @@ use Rattle.std.proofs.lemmas.List.Folds.{list_any_at}
 use Rattle.rig_trait.specs.declared.shown.Shown.{Ghosts}
 use Rattle.rig_trait.specs.Frames.{LeavesOnly}
 use Rattle.rig_trait.specs.Areas.{Areas, OthersKept}
-use Rattle.label_codec.specs.declared.label.Label.{Label}
 use Rattle.module_labels.specs.Flips.{with_module, without_slots}
 use Rattle.module_labels.specs.Labels.{Module}
 use Rattle.label_area.specs.Flips.{LeftByFlip, Standing, is_among}
@@ -19,7 +18,7 @@ use Rattle.region_sets.specs.declared.modules.LoadedModule.{LoadedModule}
 use Rattle.region_sets.specs.declared.modules.ModuleArea.{ModuleArea}
 use Rattle.region_sets.specs.declared.modules.ModuleArea.TheVariants.{Missing, WrongSize, Uninit, Foreign, Ready}
 use Rattle.region_sets.specs.declared.region.RegionLabels.{RegionLabels}
-use Rattle.region_sets.specs.Modules.{EachOnce, dimm_of, labels_in, module_in, size_in}
+use Rattle.region_sets.specs.Modules.{EachOnce, dimm_of, labels_in, module_in}
 use Rattle.region_sets.specs.Regions.{IsOver}
 use Rattle.region_changes.specs.declared.by_slot.SlotLabel.{SlotLabel}
 use Rattle.region_changes.specs.Changes.{IsChangedAt, dimm_at}
@@ -27,7 +26,7 @@ use Rattle.region_changes.specs.Flips.{LosesLabels, StoodBeforeFree}
 use Rattle.region_changes.specs.SlotLabels.{slot_labels}
 use Rattle.region_changes.proofs.AreaFlips.{IsBoundedModule, loses-slots}
 use Rattle.region_changes.proofs.ChangedModules.{changed-set, dimm-at, labels-after, labels-at}
-use Rattle.label_sets.specs.Flips.{CanFree, HasLabelsInUse, IsFreedAt, IsOwn, is_used_by, is_used_in, standing_in, with_free, without_slots_at}
+use Rattle.label_sets.specs.Flips.{CanFree, HasLabelsInUse, is_used_by, standing_in, with_free, without_slots_at}
 use Rattle.label_sets.specs.Loads.{StandsIn, StoredAs}
 use Rattle.label_sets.specs.Passes.{IsOneOf, LeftIn}
 use Rattle.label_sets.proofs.Standing.{stands}
@@ -54,15 +53,17 @@ still-stored areas now dimm (WrongSize size) same is = (ap area_kind same ∙ is
 still-stored areas now dimm (Uninit size) same is = (ap area_kind same ∙ is.0, ap (option_map length) same ∙ is.1)
 still-stored areas now dimm (Foreign size) same is = (ap area_kind same ∙ is.0, ap (option_map length) same ∙ is.1)
 still-stored areas now dimm (Ready area) same is =
-    let here : get now area.dimm ≡ get areas area.dimm = subst (λ m. get now m ≡ get areas m) (sym is.0) same in
-    (is.0, record {
-      bytes = is.1.bytes;
-      is_area = here ∙ is.1.is_area;
-      size_is = is.1.size_is;
-      current_is = is.1.current_is;
-      free_is = is.1.free_is;
-      module_is = ap module_of here ∙ is.1.module_is;
-    })
+    let here : get now area.dimm ≡ get areas area.dimm = subst (λ m. get now m ≡ get areas m) (sym is.0) same in (
+      is.0,
+      record {
+        bytes = is.1.bytes;
+        is_area = here ∙ is.1.is_area;
+        size_is = is.1.size_is;
+        current_is = is.1.current_is;
+        free_is = is.1.free_is;
+        module_is = ap module_of here ∙ is.1.module_is;
+      },
+    )
 
 -- the modules at two places are two
 pub apart-at : (ms : List LoadedModule) → EachOnce ms → (j k : ℕ) (d : LoadedModule) → j < length ms → k < length ms → j ≢ k → (get_or ms j d).dimm ≢ (get_or ms k d).dimm

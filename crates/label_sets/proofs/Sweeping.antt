@@ -1,25 +1,21 @@
 -- A sweep of one module.
-use Rattle.std.proofs.Common.{◌≡◌, ◌≢◌, ◌⊎◌, inl, inr, ℕ, zero, suc, ◌+◌, ◌-◌, ◌*◌, ◌<◌, ◌≤◌, Bool, true, false, cond, eqb, not, ◌&&◌, ◌++◌, ◌∷◌, [], List, length, get_or, map, Option, Some, None, refl, sym, ap, subst, ◌∙◌, eqb-true, arith}
+use Rattle.std.proofs.Common.{◌≡◌, inl, inr, ℕ, zero, suc, ◌+◌, ◌<◌, ◌≤◌, Bool, true, false, cond, eqb, not, ◌&&◌, ◌++◌, ◌∷◌, [], List, length, get_or, Option, Some, None, refl, sym, ap, subst, ◌∙◌, arith}
 use Rattle.std.specs.Prelude.{find, is_some, IsTrue, if◌then◌else◌, nat_lt}
-use Rattle.std.specs.List.{All, AllZip, Contains}
-use Rattle.std.specs.Option.{option_map_or}
+use Rattle.std.specs.List.{All}
 use Rattle.std.proofs.lemmas.Bool.{and_parts, cases_lt, lt-ltb}
 use Rattle.std.proofs.lemmas.List.{append-nil, get_or_append_left, get_or_push, length-append}
 use Rattle.std.proofs.lemmas.List.Elements.{All-append, All-head, All-nil, All-tail}
 use Rattle.index_block.specs.Bitmap.{free_count, is_free_in}
 use Rattle.label_codec.specs.declared.label.Label.{Label}
-use Rattle.module_labels.specs.Labels.{IsBounded, Labels, Module, number}
-use Rattle.label_area.specs.Flips.{Standing, is_among}
-use Rattle.label_area.specs.LoadedAreas.{LoadedArea}
+use Rattle.module_labels.specs.Labels.{IsBounded, Labels, number}
+use Rattle.label_area.specs.Flips.{Standing}
 use Rattle.region_map.specs.declared.platform.Platform.{Platform}
-use Rattle.label_table.specs.Belonging.{IsDisjoint}
 use Rattle.label_table.specs.Fates.{is_dead}
-use Rattle.label_table.specs.Tables.{state}
 use Rattle.region_sets.specs.declared.modules.LoadedModule.{LoadedModule}
 use Rattle.region_sets.specs.declared.modules.ModuleArea.{ModuleArea}
 use Rattle.region_sets.specs.declared.modules.ModuleArea.TheVariants.{Missing, WrongSize, Uninit, Foreign, Ready}
 use Rattle.region_sets.specs.Held.{spare_in}
-use Rattle.region_sets.specs.Modules.{EachOnce, is_of, labels_in, module_in, module_or_missing}
+use Rattle.region_sets.specs.Modules.{is_of, labels_in, module_in, module_or_missing}
 use Rattle.region_changes.specs.SlotLabels.{AreApart, slot_labels}
 use Rattle.label_sets.specs.Flips.{CanFree, HasLabelsInUse, IsOwn, IsReadyArea, is_used_in, standing_in, with_free}
 use Rattle.label_sets.specs.Sweeps.{IsSwept, free_slots, is_unwanted, slots_below, unwanted_slots}
@@ -125,10 +121,10 @@ module _ (P : Platform) (L : Labels) (here : LoadedModule) (in_use : HasLabelsIn
       → standing_in now ≡ with_free (unwanted_slots P L here) (standing_in here) → IsSwept P L_now now
   swept now L_now dimm dead freed =
       let junk : (k : ℕ) → is_used_in now k ≡ is_some ((module_in now).at k) = λ k.
-          subst (λ (s : Standing). s.used k ≡ is_some (s.labels.at k)) (sym freed) (no-junk (standing_in here) (is_dead P L here.dimm) live (used-within here.area here.dimm) k) in
+      subst (λ (s : Standing). s.used k ≡ is_some (s.labels.at k)) (sym freed) (no-junk (standing_in here) (is_dead P L here.dimm) live (used-within here.area here.dimm) k) in
       let gone : (k : ℕ) (l : Label) → (module_in now).at k ≡ Some l → is_dead P L_now now.dimm l ≡ false = λ k l at.
-          ap (λ d. is_dead P L_now d l) dimm ∙ dead l
-          ∙ no-dead (standing_in here) (is_dead P L here.dimm) live (used-within here.area here.dimm) k l (sym (ap (λ (s : Standing). s.labels.at k) freed) ∙ at) in
+      ap (λ d. is_dead P L_now d l) dimm ∙ dead l
+      ∙ no-dead (standing_in here) (is_dead P L here.dimm) live (used-within here.area here.dimm) k l (sym (ap (λ (s : Standing). s.labels.at k) freed) ∙ at) in
       record { no_junk = junk; no_dead = gone; free = free-is-spare P L_now now.dimm now.area junk gone }
 
   -- the slots can be freed

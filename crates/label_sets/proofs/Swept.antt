@@ -1,15 +1,15 @@
 -- A module whose junk and dead labels were freed has neither, and is as free as it is spare.
-use Rattle.std.proofs.Common.{◌≡◌, ◌⊎◌, inl, inr, ℕ, zero, suc, ◌+◌, ◌-◌, ◌<◌, ◌≤◌, Bool, true, false, cond, not, ◌&&◌, List, Option, Some, None, refl, sym, ap, subst, ◌∙◌, arith}
-use Rattle.std.specs.Prelude.{if◌then◌else◌, is_some}
+use Rattle.std.proofs.Common.{◌≡◌, ℕ, zero, suc, ◌+◌, ◌<◌, Bool, true, false, cond, not, ◌&&◌, List, Option, Some, None, refl, sym, ap, ◌∙◌, arith}
+use Rattle.std.specs.Prelude.{is_some}
 use Rattle.std.specs.Option.{option_map_or}
 use Rattle.index_block.specs.Bitmap.{free_count, is_free_in}
 use Rattle.index_block.proofs.FreeSlots.{free_count-more}
 use Rattle.label_codec.specs.declared.label.Label.{Label}
-use Rattle.module_labels.specs.Labels.{Module, count, one}
+use Rattle.module_labels.specs.Labels.{count, one}
 use Rattle.label_area.specs.Flips.{Standing, is_among}
 use Rattle.label_sets.specs.Flips.{with_free}
 use Rattle.label_sets.specs.Sweeps.{slots_below}
-use Rattle.label_sets.proofs.Unwanted.{among-from, among-true}
+use Rattle.label_sets.proofs.Unwanted.{among-from}
 
 apart : false ≡ true → ⊥
 apart e = cc

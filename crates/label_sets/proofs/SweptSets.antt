@@ -1,20 +1,19 @@
 -- What is kept of all modules and regions after a sweep of one module.
-use Rattle.std.proofs.Common.{◌≡◌, ◌≢◌, ◌⊎◌, inl, inr, ℕ, zero, suc, ◌+◌, ◌*◌, ◌^◌, ◌<◌, ◌≤◌, Bool, true, false, cond, not, ◌&&◌, ◌++◌, ◌∷◌, [], List, length, get_or, map, Option, Some, None, refl, sym, ap, subst, ◌∙◌, ⊎_elim, arith}
+use Rattle.std.proofs.Common.{◌≡◌, ◌⊎◌, inl, inr, ℕ, zero, suc, ◌+◌, ◌^◌, ◌<◌, ◌≤◌, Bool, true, false, cond, not, ◌&&◌, ◌++◌, ◌∷◌, [], List, length, get_or, map, Option, Some, None, refl, sym, ap, subst, ◌∙◌, ⊎_elim, arith}
 use Rattle.std.specs.List.{All, AllZip, Contains}
-use Rattle.std.specs.List.Sorted.{IsPermutation}
 use Rattle.std.specs.Option.{option_map_or}
 use Rattle.std.proofs.lemmas.Bool.{and_parts, cases_eq}
 use Rattle.std.specs.Vec.{with_items}
 use Rattle.std.specs.declared.vec.Vec.{Vec}
 use Rattle.std.proofs.lemmas.List.{ext_get_or, get_or-map, length-append, length-map, with_items_is}
-use Rattle.std.proofs.lemmas.List.Elements.{AllZip-get_or, length_all_zip}
+use Rattle.std.proofs.lemmas.List.Elements.{AllZip-get_or}
 use Rattle.std.proofs.lemmas.List.Sorted.{length_permutation}
 use Rattle.rig_trait.specs.declared.shown.Shown.{Ghosts}
 use Rattle.rig_trait.specs.Frames.{LeavesOnly}
 use Rattle.rig_trait.proofs.Moments.{weakened}
 use Rattle.extent_alloc.specs.Free.{FreeSpace}
 use Rattle.label_codec.specs.declared.label.Label.{Label}
-use Rattle.module_labels.specs.Labels.{IsBounded, Labels, Module}
+use Rattle.module_labels.specs.Labels.{Labels, Module}
 use Rattle.label_area.specs.Flips.{Standing, is_among}
 use Rattle.region_map.specs.declared.platform.Platform.{Platform}
 use Rattle.region_map.specs.declared.platform.Region.{Region}
@@ -22,8 +21,7 @@ use Rattle.label_table.specs.Belonging.{IsDisjoint}
 use Rattle.label_table.specs.Division.{AreFreeExtents, part_size}
 use Rattle.label_table.specs.Fates.{is_dead}
 use Rattle.label_table.specs.Flips.{LeavesOut, LosesDead}
-use Rattle.label_table.specs.Tables.{State, state, table}
-use Rattle.uuid_index.specs.declared.entry.Entry.{Entry}
+use Rattle.label_table.specs.Tables.{State, state}
 use Rattle.uuid_index.specs.Labels.{entries_below, entries_from, entries_of, entry_at, live_entries}
 use Rattle.region_sets.specs.declared.modules.LoadedModule.{LoadedModule}
 use Rattle.region_sets.specs.declared.modules.ModuleArea.TheVariants.{Missing}
@@ -33,13 +31,13 @@ use Rattle.region_sets.specs.Modules.{EachOnce, dimm_of, labels_in, module_in, s
 use Rattle.region_sets.specs.Regions.{IsOver, handles}
 use Rattle.region_changes.specs.declared.by_slot.SlotLabel.{SlotLabel}
 use Rattle.region_changes.specs.Changes.{dimm_at}
-use Rattle.region_changes.specs.Rooms.{KeepsRegion, position_count, room_after_free}
+use Rattle.region_changes.specs.Rooms.{KeepsRegion}
 use Rattle.region_changes.specs.SlotLabels.{slot_labels}
 use Rattle.region_changes.proofs.ChangedModules.{dimm-at, handles-same, labels-at, once-after}
 use Rattle.region_changes.proofs.FreeSpace.{extents-kept}
-use Rattle.label_sets.specs.Flips.{CanFree, HasLabelsInUse, IsReadyArea, IsFreedAt, IsOwn, is_used_in, standing_in, with_free, without_slots_at}
+use Rattle.label_sets.specs.Flips.{CanFree, HasLabelsInUse, IsReadyArea, IsFreedAt, IsOwn, standing_in, with_free, without_slots_at}
 use Rattle.label_sets.specs.Kept.{AllFree, HasFewMembers, IsFree}
-use Rattle.label_sets.specs.Room.{HasExtentRoom, HasLabelRoom, HasRoom, HasSlotsWithin}
+use Rattle.label_sets.specs.Room.{HasRoom, HasSlotsWithin}
 use Rattle.label_sets.specs.Sweeps.{IsSwept, IsSweptTo, is_unwanted, unwanted_slots}
 use Rattle.label_sets.specs.Passes.{IsOneOf, LeftIn}
 use Rattle.label_sets.proofs.Freed.{apart-at}
@@ -64,7 +62,7 @@ fewer-entries P was now leaves [] position = omega arith
 fewer-entries P was now leaves (h ∷ hs) position =
     let rest : length (entries_from (position + 1) hs now) ≤ length (entries_from (position + 1) hs was) = fewer-entries P was now leaves hs (position + 1) in
     let below : length (entries_below position (now h).at (was h).slots) ≤ length (entries_below position (was h).at (was h).slots) =
-        fewer-below position (was h).at (now h).at (λ k. ⊎_elim inl (λ (lost : LosesDead P was now h k). inr lost.gone) (leaves.each h k)) (was h).slots in
+    fewer-below position (was h).at (now h).at (λ k. ⊎_elim inl (λ (lost : LosesDead P was now h k). inr lost.gone) (leaves.each h k)) (was h).slots in
     let here : length (entries_of position (now h)) ≤ length (entries_of position (was h)) = subst (λ n. length (entries_below position (now h).at n) ≤ length (entries_of position (was h))) (sym (leaves.slots h)) below in
     let a : length (entries_of position (now h) ++ entries_from (position + 1) hs now) ≡ length (entries_of position (now h)) + length (entries_from (position + 1) hs now) = length-append (entries_of position (now h)) (entries_from (position + 1) hs now) in
     let b : length (entries_of position (was h) ++ entries_from (position + 1) hs was) ≡ length (entries_of position (was h)) + length (entries_from (position + 1) hs was) = length-append (entries_of position (was h)) (entries_from (position + 1) hs was) in
@@ -220,9 +218,9 @@ module _ (ms : List LoadedModule) (rs : List RegionLabels) (seat : ℕ) (lt : se
           let p_rs : place < length rs = subst (λ n. place < n) (sym same-length) p_lt in
           let before : IsFree ms rs (get_or rs place d) (get_or free place e) = all.is place d e p_rs in
           let listed : Contains (platform_of rs).regions (get_or rs place d).region =
-              (place, subst (λ n. place < n) (sym (length-map rs region_in)) p_rs, get_or-map region_in rs place d (get_or rs place d).region p_rs) in
+          (place, subst (λ n. place < n) (sym (length-map rs region_in)) p_rs, get_or-map region_in rs place d (get_or rs place d).region p_rs) in
           let after : AreFreeExtents (platform_of rs) left (get_or rs place d).region (get_or free place e).extents =
-              extents-kept (platform_of rs) disjoint (labels_in ms) left (ap (λ (s : State). s.table) left-state) (get_or rs place d).region listed (get_or free place e).extents before.extents in
+          extents-kept (platform_of rs) disjoint (labels_in ms) left (ap (λ (s : State). s.table) left-state) (get_or rs place d).region listed (get_or free place e).extents before.extents in
           record {
             extents = subst (λ (r : Region). AreFreeExtents (platform_of regions) (labels_in now) r (get_or free place e).extents) (sym (region-at place d p_lt))
                 (subst (λ (q : Platform). AreFreeExtents q (labels_in now) (get_or rs place d).region (get_or free place e).extents) (sym same-platform)
@@ -247,9 +245,9 @@ module _ (ms : List LoadedModule) (rs : List RegionLabels) (seat : ℕ) (lt : se
           let new = now_over place d p_lt in
           let before : length (get_or rs place d).index.entries ≡ length (live_entries (handles (get_or rs place d).region) (labels_in ms)) = length_permutation _ _ old.index.live in
           let after : length (get_or regions place d).index.entries ≡ length (live_entries (handles (get_or rs place d).region) left) =
-              length_permutation _ _ new.index.live ∙ (λ i. length (live_entries (handles (region-at place d p_lt i)) (labels i))) in
+          length_permutation _ _ new.index.live ∙ (λ i. length (live_entries (handles (region-at place d p_lt i)) (labels i))) in
           let less : length (live_entries (handles (get_or rs place d).region) left) ≤ length (live_entries (handles (get_or rs place d).region) (labels_in ms)) =
-              fewer-entries (platform_of rs) (labels_in ms) left left-out (handles (get_or rs place d).region) 0 in
+          fewer-entries (platform_of rs) (labels_in ms) left left-out (handles (get_or rs place d).region) 0 in
           omega (arith, before, after, less)
 
       now-room : (free : List FreeSpace) → HasRoom rs free → HasRoom regions free

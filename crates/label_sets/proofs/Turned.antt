@@ -1,6 +1,6 @@
 -- What a stop within a flip of one module leaves is seen in the labels of all modules: those before the flip, or those after it.
-use Rattle.std.proofs.Common.{◌≡◌, ◌≢◌, ◌⊎◌, inl, inr, ℕ, Bool, true, false, cond, eqb, List, refl, sym, ap, subst, ◌∙◌, eq-eqb, eqb-true}
-use Rattle.std.specs.Prelude.{◌==◌, if◌then◌else◌}
+use Rattle.std.proofs.Common.{◌≡◌, ◌⊎◌, inl, inr, ℕ, Bool, true, false, cond, eqb, List, refl, sym, ap, subst, ◌∙◌, eq-eqb, eqb-true}
+use Rattle.std.specs.Prelude.{◌==◌}
 use Rattle.std.specs.List.{list_any}
 use Rattle.std.proofs.lemmas.Bool.{cases_eq}
 use Rattle.rig_trait.specs.declared.shown.Shown.{Ghosts}

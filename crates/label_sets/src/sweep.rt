@@ -1,11 +1,11 @@
 //! Junk and dead labels of a module are freed.
 
-ghost use Rattle.std.specs.Prelude.{◌≡◌, ◌+◌, ◌++◌, ◌∷◌, [], ◌<◌, ◌≤◌, length, map, slice_index_or, vec_capacity, vec_len, IfErr, OnErr, OnOk};
+ghost use Rattle.std.specs.Prelude.{◌≡◌, ◌+◌, ◌++◌, ◌∷◌, [], ◌<◌, ◌≤◌, length, map, slice_index_or, vec_capacity, vec_len, IfErr, IsTrue, OnErr, OnOk};
 ghost use Rattle.std.specs.List.{All};
 ghost use Rattle.std.specs.Option.{option_to_list};
 ghost use Rattle.std.specs.Result.{is_err};
 ghost use Rattle.rig_trait.specs.Frames.{FailsAt, IsTold, LeavesOnly, WritesTo};
-ghost use Rattle.module_labels.specs.declared.kind.AreaKind.TheVariants.{Ready};
+ghost use Rattle.module_labels.specs.Labels.{is_ready};
 ghost use Rattle.label_table.specs.Belonging.{IsDisjoint};
 ghost use Rattle.label_table.specs.Tables.{state};
 ghost use Rattle.region_sets.specs.declared.modules.LoadedModule.{LoadedModule};
@@ -36,7 +36,7 @@ impl Sets {
     /// none. It takes no memory. A stop at any moment leaves areas that stand for the same state, and so does a
     /// failure.
     pub fn sweep<R: Rig>(&mut self, rig: &mut R, dimm: u32) -> Result<(), AreaFailed>
-        requires ready { (sets.labels_in self.old dimm).kind ≡ Ready }
+        requires ready { IsTrue (is_ready (sets.labels_in self.old dimm).kind) }
         requires sized { IsTold R.Shown rig.old → All (IsSizedIn (R.areas rig.old)) self.old.modules }
         ensures state { state_in self.new ≡ state_in self.old }
         ensures swept { OnOk result (IsSweptAt self.new dimm) }
@@ -117,7 +117,7 @@ fn sweep_at<R: Rig>(
 
 /// Where the module with a device handle stands.
 fn seat_of(modules: &[LoadedModule], dimm: u32) -> usize
-    requires { (labels_in modules.now dimm).kind ≡ Ready }
+    requires { IsTrue (is_ready (labels_in modules.now dimm).kind) }
     ensures within { result < length modules.now }
     ensures dimm { (d : LoadedModule) → (slice_index_or modules.now result d).dimm ≡ dimm }
     ensures ready { (d : LoadedModule) → IsReadyArea (slice_index_or modules.now result d).area }

@@ -1,4 +1,4 @@
-use Rattle.std.proofs.Common.{◌≡◌, sym, ap, subst, get_or, length, ◌∙◌}
+use Rattle.std.proofs.Common.{sym, subst, get_or, length}
 use Rattle.std.specs.List.{AllZip}
 use Rattle.rig_trait.specs.Areas.{OthersKept}
 use Rattle.region_changes.specs.Rooms.{KeepsRegion, room_after_free}
@@ -24,7 +24,7 @@ returns-in-Ok-clause-regions g c =
     let ms = c.args.modules.now in
     let here = c.index-modules-seat.result in
     subst (λ d. AllZip (KeepsRegion (room_after_free d (length c.args.lost.now))) c.args.regions.now c.follow_free.new.regions)
-        (dimm_at-same ms _ c.args.seat (changed ms c.args.seat c.requires.within c.requires.once here c.free_in.new.loaded c.index-modules-seat.is c.free_in.ensures.dimm)) c.follow_free.ensures.kept
+    (dimm_at-same ms _ c.args.seat (changed ms c.args.seat c.requires.within c.requires.once here c.free_in.new.loaded c.index-modules-seat.is c.free_in.ensures.dimm)) c.follow_free.ensures.kept
 
 pub returns-in-Ok-clause-stands : goal.returns-in-Ok-clause-stands
 returns-in-Ok-clause-stands g c = λ told all.
@@ -35,8 +35,8 @@ returns-in-Ok-clause-stands g c = λ told all.
     let there : StandsIn old (get_or ms c.args.seat here) = all c.args.seat here c.requires.within in
     let others : OthersKept (get_or ms c.args.seat here).dimm old now = c.free_in.ensures.writes_only.others told in
     stands-after ms c.args.seat c.requires.within c.requires.once here c.free_in.new.loaded c.index-modules-seat.is c.free_in.ensures.dimm old now
-        (subst (λ d. OthersKept d old now) (sym (seat-dimm ms c.args.seat c.requires.within c.requires.once here c.free_in.new.loaded c.index-modules-seat.is c.free_in.ensures.dimm)) others) all
-        (c.in-Ok.ensures.stands told there)
+    (subst (λ d. OthersKept d old now) (sym (seat-dimm ms c.args.seat c.requires.within c.requires.once here c.free_in.new.loaded c.index-modules-seat.is c.free_in.ensures.dimm)) others) all
+    (c.in-Ok.ensures.stands told there)
 
 pub returns-in-Ok-clause-any_moment : goal.returns-in-Ok-clause-any_moment
 returns-in-Ok-clause-any_moment g c = λ told all. either-left c.args.modules.now c.args.seat c.requires.within c.requires.once c.index-modules-seat.result c.free_in.new.loaded c.index-modules-seat.is c.free_in.ensures.dimm c.args.slots.now c.args.lost.now

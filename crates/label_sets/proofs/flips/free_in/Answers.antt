@@ -1,5 +1,4 @@
-use Rattle.std.proofs.Common.{◌≡◌, sym, ap, subst, ◌∙◌}
-use Rattle.label_area.specs.Loads.{IsShown}
+use Rattle.std.proofs.Common.{sym, ap, subst, ◌∙◌}
 use Rattle.region_sets.specs.declared.modules.ModuleArea.{ModuleArea}
 use Rattle.label_sets.specs.Flips.{IsAreaOf, standing_in, with_free}
 use Rattle.label_sets.specs.Loads.{StoredAs}
@@ -15,11 +14,11 @@ returns-in-Ok-clause-any_moment g c = λ told stands.
     let loaded = c.args.loaded.now in
     let areas = g.R.Shown.areas c.args.rig.now in
     free-left g.R.Shown c.args.rig.now c.free.new.rig loaded.dimm loaded.area c.in-Ready.area c.args.slots.now c.in-Ready.is (subst (IsAreaOf loaded.dimm) c.in-Ready.is c.requires.own)
-        (c.in-Ok.ensures.any_moment told (subst (StoredAs areas loaded.dimm) c.in-Ready.is stands).1)
+    (c.in-Ok.ensures.any_moment told (subst (StoredAs areas loaded.dimm) c.in-Ready.is stands).1)
 
 pub returns-in-Err-clause-any_moment : goal.returns-in-Err-clause-any_moment
 returns-in-Err-clause-any_moment g c = λ told stands.
     let loaded = c.args.loaded.now in
     let areas = g.R.Shown.areas c.args.rig.now in
     free-left g.R.Shown c.args.rig.now c.free.new.rig loaded.dimm loaded.area c.in-Ready.area c.args.slots.now c.in-Ready.is (subst (IsAreaOf loaded.dimm) c.in-Ready.is c.requires.own)
-        (c.in-Err.ensures.any_moment told (subst (StoredAs areas loaded.dimm) c.in-Ready.is stands).1)
+    (c.in-Err.ensures.any_moment told (subst (StoredAs areas loaded.dimm) c.in-Ready.is stands).1)

@@ -1,5 +1,4 @@
-use Rattle.std.proofs.Common.{◌≡◌, ◌+◌, ◌*◌, ◌≤◌, ℕ, true, [], ◌∷◌, List, length, get_or, map, refl, sym, ap, subst, ◌∙◌, Result, Ok, Err, eqb-true, arith}
-use Rattle.std.specs.List.{AllZip}
+use Rattle.std.proofs.Common.{◌≡◌, ◌*◌, ◌≤◌, ℕ, [], ◌∷◌, List, length, get_or, map, refl, sym, ap, subst, ◌∙◌, Result, Ok, Err, eqb-true, arith}
 use Rattle.std.specs.Prelude.{vec_capacity, vec_len}
 use Rattle.std.specs.Result.{OnOk}
 use Rattle.region_sets.specs.declared.region.RegionLabels.{RegionLabels}
@@ -35,7 +34,7 @@ returns-then-is_empty-clause-swept g c =
 pub returns-then-is_empty-clause-any_moment : goal.returns-then-is_empty-clause-any_moment
 returns-then-is_empty-clause-any_moment g c = λ told all.
     no_flip (map dimm_of c.args.modules.now) (λ labels. state (platform_of c.args.regions.now) labels ≡ state (platform_of c.args.regions.now) (labels_in c.args.modules.now)) (labels_in c.args.modules.now)
-        (stands c.args.modules.now (g.R.Shown.areas c.args.rig.now) all) refl
+    (stands c.args.modules.now (g.R.Shown.areas c.args.rig.now) all) refl
 
 pub list_labels-requires : goal.list_labels-requires
 list_labels-requires g c =
@@ -49,8 +48,8 @@ pub free_at-requires-clause-free : goal.free_at-requires-clause-free
 free_at-requires-clause-free g c =
     let q = c.requires in
     can-free-at c.args.modules.now c.args.regions.now c.args.seat q.within q.once q.own q.in_use q.disjoint c.index-all-seat.result q.ready c.deref-2.result.now c.deref-3.result.now c.index-modules-seat.result
-        (c.deref-2.ensures.value ∙ c.list_unwanted.ensures.slots ∙ ap (unwanted_slots (platform_of c.args.regions.now) (labels_in c.args.modules.now)) c.index-all-seat.is)
-        (c.deref-3.ensures.value ∙ c.list_labels.ensures.labels ∙ (λ i. slot_labels (module_in (get_or c.args.modules.now c.args.seat c.index-modules-seat.result)) ((c.deref.ensures.value ∙ sym c.deref-2.ensures.value) i)))
+    (c.deref-2.ensures.value ∙ c.list_unwanted.ensures.slots ∙ ap (unwanted_slots (platform_of c.args.regions.now) (labels_in c.args.modules.now)) c.index-all-seat.is)
+    (c.deref-3.ensures.value ∙ c.list_labels.ensures.labels ∙ (λ i. slot_labels (module_in (get_or c.args.modules.now c.args.seat c.index-modules-seat.result)) ((c.deref.ensures.value ∙ sym c.deref-2.ensures.value) i)))
 
 pub returns-clause-swept : goal.returns-clause-swept
 returns-clause-swept g c =
@@ -60,14 +59,14 @@ returns-clause-swept g c =
     let same = c.deref-2.ensures.value ∙ c.list_unwanted.ensures.slots ∙ ap (unwanted_slots (platform_of c.args.regions.now) (labels_in c.args.modules.now)) c.index-all-seat.is in
     let room : RegionLabels → ℕ = room_after_free (dimm_at ms c.args.seat) (length c.deref-3.result.now) in
     on_ok c.free_at.result (λ freed labels over kept.
-        swept-to ms c.args.regions.now c.args.seat q.within q.once q.own q.in_use q.disjoint c.index-all-seat.result c.free_at.new.modules c.free_at.new.regions
-        (subst (λ ss. IsFreedAt ms c.free_at.new.modules c.args.seat ss) same freed)
-        (labels ∙ ap (λ ss. without_slots_at (dimm_at ms c.args.seat) ss (labels_in ms)) same)
-        room kept q.over over (λ r. let more : ℕ = length c.deref-3.result.now * position_count (dimm_at ms c.args.seat) r.region in omega arith))
+    swept-to ms c.args.regions.now c.args.seat q.within q.once q.own q.in_use q.disjoint c.index-all-seat.result c.free_at.new.modules c.free_at.new.regions
+    (subst (λ ss. IsFreedAt ms c.free_at.new.modules c.args.seat ss) same freed)
+    (labels ∙ ap (λ ss. without_slots_at (dimm_at ms c.args.seat) ss (labels_in ms)) same)
+    room kept q.over over (λ r. let more : ℕ = length c.deref-3.result.now * position_count (dimm_at ms c.args.seat) r.region in omega arith))
     c.free_at.ensures.freed c.free_at.ensures.labels c.free_at.ensures.over c.free_at.ensures.regions
 
 pub returns-clause-any_moment : goal.returns-clause-any_moment
 returns-clause-any_moment g c = λ told all.
     let q = c.requires in
     keeps-state c.args.modules.now c.args.regions.now c.args.seat q.within q.once q.own q.in_use q.disjoint c.index-all-seat.result g.R.Shown c.args.rig.now c.free_at.new.rig c.deref-2.result.now
-        (c.deref-2.ensures.value ∙ c.list_unwanted.ensures.slots ∙ ap (unwanted_slots (platform_of c.args.regions.now) (labels_in c.args.modules.now)) c.index-all-seat.is) (c.free_at.ensures.any_moment told all)
+    (c.deref-2.ensures.value ∙ c.list_unwanted.ensures.slots ∙ ap (unwanted_slots (platform_of c.args.regions.now) (labels_in c.args.modules.now)) c.index-all-seat.is) (c.free_at.ensures.any_moment told all)
