@@ -83,5 +83,7 @@ without_slots_at dimm slots labels = with_module dimm (without_slots (is_among s
 pub record IsFreedAt (before after : List LoadedModule) (seat : ℕ) (slots : List ℕ) : Type 0 where
   pub changed : IsChangedAt before after seat
   pub own : (d : LoadedModule) → IsOwn (slice_index_or after seat d)
-  pub size : (d : LoadedModule) → loaded.size_in (slice_index_or after seat d) ≡ loaded.size_in (slice_index_or before seat d)
-  pub standing : (d : LoadedModule) → standing_in (slice_index_or after seat d) ≡ with_free slots (standing_in (slice_index_or before seat d))
+  pub size : (d : LoadedModule) → loaded.size_in (slice_index_or after seat d)
+      ≡ loaded.size_in (slice_index_or before seat d)
+  pub standing : (d : LoadedModule) → standing_in (slice_index_or after seat d)
+      ≡ with_free slots (standing_in (slice_index_or before seat d))

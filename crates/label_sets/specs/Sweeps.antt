@@ -1,5 +1,6 @@
 -- What a sweep of a module frees: its junk, and its dead labels.
-use Rattle.std.specs.Prelude.{◌≡◌, ◌≢◌, ℕ, zero, suc, ◌<◌, ◌&&◌, ◌++◌, Bool, false, true, List, [], ◌∷◌, Some, if◌then◌else◌, is_some, length, map, slice_index_or}
+use Rattle.std.specs.Prelude.{◌≡◌, ◌≢◌, ℕ, zero, suc, ◌<◌, ◌&&◌, ◌++◌, Bool, false, true, List, [], ◌∷◌, Some}
+use Rattle.std.specs.Prelude.{if◌then◌else◌, is_some, length, map, slice_index_or}
 use Rattle.std.specs.List.{All}
 use Rattle.std.specs.Option.{option_map_or}
 use Rattle.extent_alloc.specs.Free.{FreeSpace}
@@ -51,18 +52,21 @@ free_slots loaded = free_slots_of loaded.area
 -- A module has neither junk nor a dead label, and as many free slots as are left for new labels.
 pub record IsSwept (platform : Platform) (labels : Labels) (loaded : LoadedModule) : Type 0 where
   pub no_junk : (slot : ℕ) → is_used_in loaded slot ≡ is_some ((module_in loaded).at slot)
-  pub no_dead : (slot : ℕ) (label : Label) → (module_in loaded).at slot ≡ Some label → is_dead platform labels loaded.dimm label ≡ false
+  pub no_dead : (slot : ℕ) (label : Label) → (module_in loaded).at slot ≡ Some label
+      → is_dead platform labels loaded.dimm label ≡ false
   pub free : free_slots loaded ≡ spare_in platform labels loaded
 
 -- the module with a device handle is swept
 abbrev pub IsSweptAt : StoredSets → ℕ → Type 0
-IsSweptAt sets dimm = (place : ℕ) (d : LoadedModule) → place < length sets.modules → (slice_index_or sets.modules place d).dimm ≡ dimm
+IsSweptAt sets dimm = (place : ℕ) (d : LoadedModule) → place < length sets.modules
+    → (slice_index_or sets.modules place d).dimm ≡ dimm
     → IsSwept (platform_in sets) (labels_in sets) (slice_index_or sets.modules place d)
 
 -- all other modules are as they were, in their order
 pub record ChangesOnly (dimm : ℕ) (before after : List LoadedModule) : Type 0 where
   pub each : length after ≡ length before
-  pub others : (place : ℕ) (d : LoadedModule) → (slice_index_or before place d).dimm ≢ dimm → slice_index_or after place d ≡ slice_index_or before place d
+  pub others : (place : ℕ) (d : LoadedModule) → (slice_index_or before place d).dimm ≢ dimm
+      → slice_index_or after place d ≡ slice_index_or before place d
 
 -- Modules and regions after a sweep of the module at a seat: what is kept goes with them as before.
 pub record IsSweptTo (modules : List LoadedModule) (regions : List RegionLabels) (now : List LoadedModule)
@@ -71,7 +75,8 @@ pub record IsSweptTo (modules : List LoadedModule) (regions : List RegionLabels)
   pub dimms : map dimm_of now ≡ map dimm_of modules
   pub sizes : map size_in now ≡ map size_in modules
   pub same_regions : map region_in regions_now ≡ map region_in regions
-  pub same_state : state (platform_of regions_now) (loaded.labels_in now) ≡ state (platform_of regions) (loaded.labels_in modules)
+  pub same_state : state (platform_of regions_now) (loaded.labels_in now)
+      ≡ state (platform_of regions) (loaded.labels_in modules)
   pub swept : (d : LoadedModule) → IsSwept (platform_of regions_now) (loaded.labels_in now) (slice_index_or now seat d)
   pub once : EachOnce now
   pub own : All IsOwn now
