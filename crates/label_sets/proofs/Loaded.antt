@@ -1,29 +1,32 @@
 -- What is kept of an area that was loaded is what the area that is stored stands for.
-use Rattle.std.proofs.Common.{◌≡◌, ◌≢◌, ℕ, false, List, length, Option, Some, None, Result, Ok, Err, refl, sym, ap, ◌∙◌}
-use Rattle.std.specs.Prelude.{IfOk}
+use Rattle.std.proofs.Common.{◌≡◌, ◌≢◌, ℕ, Bool, true, false, ◌||◌, cond, is_some, List, length, Option, Some, None, Result, Ok, Err, refl, sym, ap, subst, ◌∙◌}
+use Rattle.std.specs.Prelude.{IsSome, IfOk}
 use Rattle.std.specs.FinMap.{get}
-use Rattle.std.specs.Option.{option_and_then}
+use Rattle.std.specs.Option.{option_and_then, option_map}
 use Rattle.rig_trait.specs.declared.shown.Shown.{Ghosts}
-use Rattle.rig_trait.specs.Areas.{Areas}
+use Rattle.rig_trait.specs.Areas.{Areas, size_in}
 use Rattle.rig_trait.specs.Frames.{FailsAt}
 use Rattle.index_block.specs.declared.geometry.Geometry.{Geometry}
 use Rattle.index_block.specs.Geometry.{geometry_of}
 use Rattle.module_labels.specs.declared.kind.AreaKind.{AreaKind}
 use Rattle.module_labels.specs.declared.kind.AreaKind.TheVariants as kind
 use Rattle.label_area.specs.declared.blocks.Current.{Current}
+use Rattle.label_area.specs.declared.layouts.Layouts.{Layouts}
 use Rattle.label_area.specs.declared.load.AreaFault.{AreaFault}
 use Rattle.label_area.specs.declared.load.AreaFault.TheVariants as fault
-use Rattle.label_area.specs.Blocks.{current_block, current_in}
+use Rattle.label_area.specs.Blocks.{current_block, current_in, is_block, kinds_in, seq_in}
+use Rattle.label_area.specs.Layouts.{layouts_of}
 use Rattle.label_area.specs.Faults.{is_load_failed}
-use Rattle.label_area.specs.LoadedAreas.{LoadedArea}
+use Rattle.label_area.specs.LoadedAreas.{IsSound, LoadedArea}
 use Rattle.label_area.specs.Loads.{Loads}
-use Rattle.label_area.specs.Modules.{area_kind, live_by, module_at, module_of, slots_by}
+use Rattle.label_area.specs.Modules.{area_kind, live_by, module_at, module_of, slots_by, kind_by_layouts}
 use Rattle.label_area.proofs.Shown.{ready_is}
 use Rattle.region_sets.specs.declared.modules.LoadedModule.{LoadedModule}
 use Rattle.region_sets.specs.declared.modules.ModuleArea.{ModuleArea}
 use Rattle.region_sets.specs.declared.modules.ModuleArea.TheVariants.{Missing, WrongSize, Uninit, Foreign, Ready}
-use Rattle.region_sets.specs.Modules.{module_in, without_labels}
+use Rattle.region_sets.specs.Modules.{module_in, size_of_area, without_labels}
 use Rattle.region_sets.specs.Modules as loaded
+use Rattle.label_sets.specs.Flips.{HasLabelsInUse, IsAreaOf, IsSizedIn}
 use Rattle.label_sets.specs.Loads.{HasCause, StandsIn, StoredAs, area_by}
 
 -- an area that is not Ready has no labels
@@ -77,3 +80,49 @@ module _ {R : Type 0} (m : Ghosts R) (old new : R) (dimm : ℕ) where
   loads-cause (Err (fault.Foreign size)) f = unnamed f
   loads-cause (Err fault.Failed) f = f
   loads-cause (Err fault.Memory) f = unnamed f
+
+-- its area is its own, and a slot with a label is in use
+pub loads-own : (dimm : ℕ) (result : Result LoadedArea AreaFault) → IfOk result (λ area. area.dimm ≡ dimm) → IfOk (area_by dimm result) (IsAreaOf dimm)
+loads-own dimm (Ok area) same = same
+loads-own dimm (Err fault.Missing) same = tt
+loads-own dimm (Err (fault.WrongSize size)) same = tt
+loads-own dimm (Err (fault.Uninit size)) same = tt
+loads-own dimm (Err (fault.Foreign size)) same = tt
+loads-own dimm (Err fault.Failed) same = tt
+loads-own dimm (Err fault.Memory) same = tt
+
+pub loads-in_use : (dimm : ℕ) (result : Result LoadedArea AreaFault) → IfOk result IsSound → IfOk (area_by dimm result) (λ area. HasLabelsInUse (record { dimm = dimm; area = area }))
+loads-in_use dimm (Ok area) sound = λ slot label is. sound.live_in_use slot (subst (λ o. IsSome o) (sym is) refl)
+loads-in_use dimm (Err fault.Missing) sound = λ slot label is. absurd cc
+loads-in_use dimm (Err (fault.WrongSize size)) sound = λ slot label is. absurd cc
+loads-in_use dimm (Err (fault.Uninit size)) sound = λ slot label is. absurd cc
+loads-in_use dimm (Err (fault.Foreign size)) sound = λ slot label is. absurd cc
+loads-in_use dimm (Err fault.Failed) sound = tt
+loads-in_use dimm (Err fault.Memory) sound = tt
+
+-- an area that is there is not Missing
+missing-none : (stored : Option (List ℕ)) → area_kind stored ≡ kind.Missing → stored ≡ None
+missing-none None is = refl
+missing-none (Some bytes) is = absurd (by_layouts (layouts_of (length bytes)) is)
+  where
+    by_blocks : (ready foreign : Bool) → cond ready kind.Ready (cond foreign kind.Foreign kind.Uninit) ≡ kind.Missing → ⊥
+    by_blocks true foreign e = cc
+    by_blocks false true e = cc
+    by_blocks false false e = cc
+
+    by_layouts : (layouts : Option Layouts) → kind_by_layouts layouts bytes ≡ kind.Missing → ⊥
+    by_layouts None e = cc
+    by_layouts (Some layouts) e =
+        let kinds = kinds_in layouts bytes in
+        by_blocks (is_some (seq_in kinds.first) || is_some (seq_in kinds.second)) (is_block kinds.first || is_block kinds.second || is_block kinds.old_second) e
+
+stored-sized : (areas : Areas) (dimm : ℕ) (area : ModuleArea) → StoredAs areas dimm area → size_in areas dimm ≡ size_of_area area
+stored-sized areas dimm Missing is = ap (option_map length) (missing-none (get areas dimm) is)
+stored-sized areas dimm (WrongSize size) is = is.1
+stored-sized areas dimm (Uninit size) is = is.1
+stored-sized areas dimm (Foreign size) is = is.1
+stored-sized areas dimm (Ready area) is = ap (size_in areas) (sym is.0) ∙ ap (option_map length) is.1.is_area ∙ ap Some is.1.size_is
+
+-- a module that stands in its area shows the size of that
+pub stands-sized : (areas : Areas) (m : LoadedModule) → StandsIn areas m → IsSizedIn areas m
+stands-sized areas m stands = stored-sized areas m.dimm m.area stands

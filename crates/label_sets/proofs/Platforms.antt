@@ -10,6 +10,9 @@ use Rattle.region_map.specs.declared.platform.Platform.{Platform}
 use Rattle.region_map.specs.declared.platform.Region.{Region}
 use Rattle.region_map.specs.Platforms.{IsSound}
 use Rattle.region_map.proofs.Disjoint.{unusable_region, usable_region}
+use Rattle.label_table.specs.Belonging.{IsDisjoint}
+use Rattle.label_table.proofs.SoundPlatforms.{sound-disjoint}
+use Rattle.region_sets.specs.Fates.{with_regions}
 use Rattle.region_sets.specs.declared.modules.LoadedModule.{LoadedModule}
 use Rattle.region_sets.specs.Modules.{EachOnce, dimm_of}
 
@@ -33,6 +36,12 @@ each-once xs up = record {
       let at_j : get_or (map dimm_of xs) (i + suc k) 0 ≡ (get_or xs j d).dimm = ap (λ n. get_or (map dimm_of xs) n 0) e ∙ get_or-map dimm_of xs j d 0 below in
       absurd (omega arith);
 }
+
+-- the regions alone tell that no two share a byte
+pub regions-disjoint : (P : Platform) (regions : List Region) → IsSound P → regions ≡ P.regions → IsDisjoint (with_regions regions)
+regions-disjoint P regions sound same =
+    let disjoint : IsDisjoint P = sound-disjoint P sound in
+    subst (λ rs. IsDisjoint (with_regions rs)) (sym same) (record { indexes = disjoint.indexes; positions = disjoint.positions; bytes = disjoint.bytes })
 
 module _ (P : Platform) (sound : IsSound P) (r : Region) (in_P : Contains P.regions r) where
   no-members : (rule : Rule) → r.rule ≡ Some rule → r.members ≡ []

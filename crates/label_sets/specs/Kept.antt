@@ -2,13 +2,15 @@
 use Rattle.std.specs.Prelude.{◌≡◌, ℕ, ◌<◌, ◌^◌, true, List, length, map, slice_index_or, vec_capacity}
 use Rattle.std.specs.List.{All}
 use Rattle.extent_alloc.specs.Free.{FreeSpace}
+use Rattle.label_table.specs.Belonging.{IsDisjoint}
 use Rattle.label_table.specs.Division.{AreFreeExtents, part_size}
 use Rattle.region_sets.specs.declared.modules.LoadedModule.{LoadedModule}
 use Rattle.region_sets.specs.declared.region.RegionLabels.{RegionLabels}
 use Rattle.region_sets.specs.Fates.{platform_of, region_in}
-use Rattle.region_sets.specs.Modules.{labels_in}
+use Rattle.region_sets.specs.Modules.{EachOnce, labels_in}
 use Rattle.region_sets.specs.Regions.{IsOver}
 use Rattle.label_sets.specs.declared.sets.Sets.TheInside.{Inside}
+use Rattle.label_sets.specs.Flips.{HasLabelsInUse, IsOwn}
 use Rattle.label_sets.specs.Room.{HasRoom, HasSlotsWithin}
 use Rattle.label_sets.specs.Sets.{StoredSets}
 
@@ -32,9 +34,14 @@ abbrev pub shown : Inside → StoredSets
 shown sets = record { regions = map region_in sets.regions.items; modules = sets.modules.items; room = sets.room }
 
 pub record IsKept (sets : Inside) : Type 0 where
+  pub once : EachOnce sets.modules.items
+  pub own : All IsOwn sets.modules.items
+  pub in_use : All HasLabelsInUse sets.modules.items
+  pub disjoint : IsDisjoint (platform_of sets.regions.items)
   pub over : All (IsOver sets.modules.items) sets.regions.items
   pub free : AllFree sets.modules.items sets.regions.items sets.free.items
   pub few : All HasFewMembers sets.regions.items
   -- the slots of any module can be listed without memory
   pub slots : All (HasSlotsWithin (vec_capacity sets.slots)) sets.modules.items
+  pub lost : All (HasSlotsWithin (vec_capacity sets.lost)) sets.modules.items
   pub room : sets.room ≡ true → HasRoom sets.regions.items sets.free.items

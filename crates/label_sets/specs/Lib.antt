@@ -1,3 +1,6 @@
+pub mod Flips
+pub mod Passes
+pub mod Sweeps
 pub mod Loads
 pub mod Codes
 pub mod Sets

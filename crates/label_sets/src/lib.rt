@@ -1,14 +1,17 @@
 //! The state that the label storage areas of all modules stand for, as it is read and shown (UEFI 2.7, section 13.19).
 #![tactic(auto)]
 
+mod flips;
 mod largest;
 mod load;
 mod lookups;
 mod read;
 mod room;
 mod sets;
+mod sweep;
 mod views;
 
+pub use flips::AreaFailed;
 pub use load::SetFault;
 pub use read::read_state;
 pub use sets::Sets;

@@ -4,6 +4,7 @@ ghost use Rattle.std.specs.Prelude.{◌≡◌, ◌+◌, ◌*◌, ◌≤◌, IfEr
 ghost use Rattle.std.specs.List.{All};
 ghost use Rattle.rig_trait.specs.Frames.{IsTold, Reads};
 ghost use Rattle.region_sets.specs.Modules.{dimm_of};
+ghost use Rattle.label_sets.specs.Flips.{HasLabelsInUse, IsOwn};
 ghost use Rattle.label_sets.specs.Loads.{HasCause, IsAt, IsAmong, StandsIn, area_by};
 ghost use Rattle.label_sets.specs.declared.load.SetFault.TheVariants.{Memory};
 
@@ -45,6 +46,8 @@ pub(crate) fn load_modules<R: Rig>(
 ) -> Result<Vec<LoadedModule>, SetFault>
     ensures stands { IsTold R.Shown rig.old → IfOk result (λ modules. All (StandsIn (R.areas rig.old)) modules.items) }
     ensures handles { IfOk result (λ modules. map dimm_of modules.items ≡ handles.now) }
+    ensures own { IfOk result (λ modules. All IsOwn modules.items) }
+    ensures in_use { IfOk result (λ modules. All HasLabelsInUse modules.items) }
     ensures reads_only { Reads R.Shown rig.old rig.new }
     ensures cause { HasCause R.Shown rig.old rig.new result }
     ensures among { IfErr result (IsAmong handles.now) }
@@ -61,6 +64,8 @@ pub(crate) fn load_modules<R: Rig>(
 fn load_module<R: Rig>(alloc: Global, rig: &mut R, dimm: u32) -> Result<LoadedModule, SetFault>
     ensures stands { IsTold R.Shown rig.old → IfOk result (StandsIn (R.areas rig.old)) }
     ensures dimm { IfOk result (λ loaded. loaded.dimm ≡ dimm) }
+    ensures own { IfOk result IsOwn }
+    ensures in_use { IfOk result HasLabelsInUse }
     ensures reads_only { Reads R.Shown rig.old rig.new }
     ensures cause { HasCause R.Shown rig.old rig.new result }
     ensures at { IfErr result (IsAt dimm) }

@@ -7,12 +7,13 @@ ghost use Rattle.rig_trait.specs.Frames.{IsTold, Reads};
 ghost use Rattle.region_sets.specs.Fates.{region_in};
 ghost use Rattle.region_sets.specs.Modules.{dimm_of};
 ghost use Rattle.region_sets.specs.Regions.{IsOver};
+ghost use Rattle.label_sets.specs.Flips.{IsSizedIn};
 ghost use Rattle.label_sets.specs.Kept.{AllFree, HasFewMembers};
 ghost use Rattle.label_sets.specs.Loads.{HasCause, IsAmong, StandsIn, stored_labels};
 ghost use Rattle.label_sets.specs.Sets.{labels_in};
 
 use crate::load::{SetFault, load_modules};
-use crate::room::slot_list;
+use crate::room::most_slots;
 use crate::sets::Sets;
 use extent_alloc::Extents;
 use region_map::Platform;
@@ -27,6 +28,8 @@ pub fn read_state<R: Rig>(alloc: Global, platform: &Platform, rig: &mut R) -> Re
     ensures stands { IsTold R.Shown rig.old → IfOk result
         (λ sets. labels_in sets ≡ stored_labels platform.now.modules (R.areas rig.old)) }
     ensures areas { IsTold R.Shown rig.old → IfOk result (λ sets. All (StandsIn (R.areas rig.old)) sets.modules) }
+    ensures sized { IsTold R.Shown rig.old → IfOk result
+        (λ sets. All (IsSizedIn (R.areas rig.new)) sets.modules) }
     ensures regions { IfOk result (λ sets. sets.regions ≡ platform.now.regions) }
     ensures modules { IfOk result (λ sets. map dimm_of sets.modules ≡ platform.now.modules) }
     ensures room { IfOk result (λ sets. sets.room ≡ false) }
@@ -38,8 +41,10 @@ pub fn read_state<R: Rig>(alloc: Global, platform: &Platform, rig: &mut R) -> Re
     let modules = load_modules(alloc, rig, platform.modules.as_slice())?;
     let regions = regions_over(alloc, &modules, platform)?;
     let free = free_in(alloc, &modules, &regions)?;
-    let slots = slot_list(alloc, &modules)?;
-    Ok(Sets::of(modules, regions, free, slots))
+    let most = most_slots(&modules) as usize;
+    let slots = Vec::with_capacity(alloc, most)?;
+    let lost = Vec::with_capacity(alloc, most)?;
+    Ok(Sets::of(modules, regions, free, slots, lost))
 }
 
 /// The regions of a platform over its modules.

@@ -1,6 +1,6 @@
 //! The memory that is taken before a change, so that no want of it can end a change half-way.
 
-ghost use Rattle.std.specs.Prelude.{◌≡◌, ◌<◌, ℕ, IfOk, OnOk, length, map, slice_index_or, vec_capacity};
+ghost use Rattle.std.specs.Prelude.{◌≡◌, ◌<◌, ℕ, OnOk, length, map, slice_index_or};
 ghost use Rattle.std.specs.List.{All};
 ghost use Rattle.extent_alloc.specs.Free.{FreeSpace};
 ghost use Rattle.region_sets.specs.declared.region.RegionLabels.{RegionLabels};
@@ -9,17 +9,10 @@ ghost use Rattle.label_sets.specs.Room.{HasExtentRoom, HasLabelRoom, HasSlotsWit
 
 use extent_alloc::Extents;
 use region_sets::{LoadedModule, RegionLabels};
-use std::alloc::{AllocError, Global};
-
-/// An empty list with room for all slots of any of these modules.
-pub(crate) fn slot_list(alloc: Global, modules: &[LoadedModule]) -> Result<Vec<u32>, AllocError>
-    ensures { IfOk result (λ slots. All (HasSlotsWithin (vec_capacity slots)) modules.now) }
-{
-    Vec::with_capacity(alloc, most_slots(modules) as usize)
-}
+use std::alloc::AllocError;
 
 /// The greatest number of slots of a module.
-fn most_slots(modules: &[LoadedModule]) -> u32
+pub(crate) fn most_slots(modules: &[LoadedModule]) -> u32
     ensures { All (HasSlotsWithin result) modules.now }
 {
     let mut most = 0;

@@ -3,14 +3,18 @@
 ghost use Rattle.std.specs.Prelude.{◌≡◌, OnErr, OnOk, false, length, map, slice_get, true, vec_capacity};
 ghost use Rattle.std.specs.List.{All};
 ghost use Rattle.std.specs.Option.{option_map};
-ghost use Rattle.region_sets.specs.Fates.{region_in};
+ghost use Rattle.label_table.specs.Belonging.{IsDisjoint};
+ghost use Rattle.region_sets.specs.Fates.{platform_of, region_in};
+ghost use Rattle.region_sets.specs.Modules.{EachOnce};
 ghost use Rattle.region_sets.specs.Regions.{IsOver};
+ghost use Rattle.label_sets.specs.Flips.{HasLabelsInUse, IsOwn};
 ghost use Rattle.label_sets.specs.Kept.{AllFree, HasFewMembers};
 ghost use Rattle.label_sets.specs.Room.{HasSlotsWithin};
 ghost use Rattle.label_sets.specs.Sets.{index_of};
 
 use crate::room::{reserve_extents, reserve_labels};
 use extent_alloc::Extents;
+use region_changes::SlotLabel;
 use region_sets::{LoadedModule, RegionLabels};
 use std::alloc::AllocError;
 use std::marker::Model;
@@ -22,8 +26,9 @@ pub struct Sets {
     pub(crate) regions: Vec<RegionLabels>,
     /// The free extents of each region.
     pub(crate) free: Vec<Extents>,
-    /// The list of slots that one flip frees. It has the memory for all slots of any module.
+    /// The slots that one flip frees, and the labels there. They have the memory for all slots of any module.
     pub(crate) slots: Vec<u32>,
+    pub(crate) lost: Vec<SlotLabel>,
     pub(crate) room: bool,
 }
 
@@ -48,11 +53,17 @@ impl Sets {
         regions: Vec<RegionLabels>,
         free: Vec<Extents>,
         slots: Vec<u32>,
+        lost: Vec<SlotLabel>,
     ) -> Sets
+        requires once { EachOnce modules.items }
+        requires own { All IsOwn modules.items }
+        requires in_use { All HasLabelsInUse modules.items }
+        requires disjoint { IsDisjoint (platform_of regions.items) }
         requires over { All (IsOver modules.items) regions.items }
         requires free { AllFree modules.items regions.items free.items }
         requires few { All HasFewMembers regions.items }
         requires slots { All (HasSlotsWithin (vec_capacity slots)) modules.items }
+        requires lost { All (HasSlotsWithin (vec_capacity lost)) modules.items }
         ensures { result ≡
             record { regions = map region_in regions.items; modules = modules.items; room = false } }
     {
@@ -61,6 +72,7 @@ impl Sets {
             regions,
             free,
             slots,
+            lost,
             room: false,
         }
     }

@@ -2,6 +2,7 @@ ghost use Rattle.std.specs.Prelude.{IfOk};
 ghost use Rattle.region_map.specs.Platforms.{IsSound};
 
 use super::*;
+use label_area::Area;
 use nfit_tables::read_nfit;
 use region_map::Platform;
 use rig_trait::MemoryRig;
@@ -460,6 +461,45 @@ fn held_label(rt: HostRuntime) -> Result<(), Fail> {
     assert!(rt; held.uuid == UUID_13 && held.region == Some(1));
     assert!(rt; !held.updating && !held.local && !held.read_only);
     Ok(())
+}
+
+/// Labels of the first module, and its free slots after a sweep of it, of 14.
+const SWEEPS: [(&[Stored], u32); 3] = [
+    (&[Label(0x13, 0, 0, 2 * MIB, 0)], 13),
+    (&[Label(0x13, 0, 0, 2 * MIB, UPDATING)], 14),
+    (
+        &[
+            Label(0x13, 0, 0, 2 * MIB, 0),
+            Label(0x14, 0, 4 * MIB, 2 * MIB, UPDATING),
+            Label(0x15, 0, 6 * MIB, 2 * MIB, UPDATING),
+        ],
+        13,
+    ),
+];
+
+#[test]
+fn sweeps(rt: HostRuntime) -> Result<(), Fail> {
+    for (labels, free) in SWEEPS {
+        assert_eq!(rt; free_after_sweep(rt.alloc(), labels)?, free);
+    }
+    Ok(())
+}
+
+/// The free slots of the first module's area after a sweep.
+fn free_after_sweep(alloc: Global, labels: &[Stored]) -> Result<u32, &'static str> {
+    let platform = platform(alloc)?;
+    let mut rig = rig_of(alloc, labels, Some(&[])).ok().ok_or("no memory")?;
+    let mut sets = match read_state(alloc, &platform, &mut rig) {
+        Ok(sets) => sets,
+        Err(_) => return Err("no state"),
+    };
+    if !sets.is_ready(0x1) || sets.sweep(&mut rig, 0x1).is_err() {
+        return Err("no sweep");
+    }
+    match Area::load(alloc, &mut rig, 0x1) {
+        Ok(area) => Ok(area.free_count()),
+        Err(_) => Err("no area"),
+    }
 }
 
 /// A call that fails names its module.

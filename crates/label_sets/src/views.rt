@@ -2,6 +2,7 @@
 
 ghost use Rattle.std.specs.Prelude.{◌≡◌, ◌<◌, IfOk, find, length, map, slice_index_or};
 ghost use Rattle.std.specs.Option.{option_copied};
+ghost use Rattle.module_labels.specs.Labels.{is_ready};
 ghost use Rattle.region_map.specs.declared.platform.Region.{Region};
 ghost use Rattle.region_sets.specs.Fates.{region_in};
 ghost use Rattle.region_sets.specs.Modules.{is_of};
@@ -75,6 +76,16 @@ impl Sets {
             return None;
         }
         Some(spare(&self.modules, &self.regions, loaded))
+    }
+
+    /// Whether the area of a module is Ready. It is not where the platform has no such module.
+    pub fn is_ready(&self, dimm: u32) -> bool
+        ensures { result ≡ is_ready (labels_in self.now dimm).kind }
+    {
+        match self.module_of(dimm) {
+            Some(loaded) => loaded.kind().is_ready(),
+            None => false,
+        }
     }
 
     fn module_of(&self, dimm: u32) -> Option<&LoadedModule>

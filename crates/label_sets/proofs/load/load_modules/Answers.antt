@@ -5,6 +5,7 @@ use Rattle.std.proofs.lemmas.List.Elements.{All-push}
 use Rattle.rig_trait.specs.Areas.{Areas}
 use Rattle.rig_trait.proofs.Frames.{reads_on}
 use Rattle.region_sets.specs.Modules.{dimm_of}
+use Rattle.label_sets.specs.Flips.{HasLabelsInUse, IsOwn}
 use Rattle.label_sets.specs.Loads.{StandsIn}
 use Rattle.label_sets.proofs.load.load_modules.Goals as goal
 
@@ -22,6 +23,8 @@ loop-dimm-preserved g c =
       stands = λ told.
           let here = subst (λ (now : Areas). StandsIn now loaded) before.reads_only.areas (turn.stands (before.reads_only.goes_on.tells ∙ told)) in
           subst (All (StandsIn areas)) (sym items) (All-push (StandsIn areas) old loaded (before.stands told) here);
+      own = subst (All IsOwn) (sym items) (All-push IsOwn old loaded before.own turn.own);
+      in_use = subst (All HasLabelsInUse) (sym items) (All-push HasLabelsInUse old loaded before.in_use turn.in_use);
       handles =
           ap (map dimm_of) items ∙ map-append dimm_of old (loaded ∷ []) ∙ (λ i. before.handles i ++ turn.dimm i ∷ [])
           ∙ sym (take_more c.args.handles.now c.loop-dimm.dimm-index 0 c.loop-dimm-test.true);

@@ -3,6 +3,8 @@ use Rattle.std.specs.Result.{OnErr}
 use Rattle.std.specs.List.{All}
 use Rattle.std.specs.Vec.{with_items}
 use Rattle.extent_alloc.specs.Free.{FreeSpace}
+use Rattle.label_table.specs.Belonging.{IsDisjoint}
+use Rattle.region_sets.specs.Fates.{with_regions}
 use Rattle.region_sets.specs.declared.region.RegionLabels.{RegionLabels}
 use Rattle.label_sets.specs.Room.{HasExtentRoom, HasLabelRoom, without_room, without_spare}
 use Rattle.label_sets.specs.Sets.{StoredSets}
@@ -24,10 +26,15 @@ invariant_of-self c =
     let same : map without_room now ≡ map without_room was = written-same without_room c.self.inside.regions ws (c.reserve_labels.ensures.same ∙ ap (map without_room) c.deref_mut.ensures.value) in
     let kept = c.self.invariant in
     record {
+      once = kept.once;
+      own = kept.own;
+      in_use = kept.in_use;
+      disjoint = subst (λ rs. IsDisjoint (with_regions rs)) (sym (same-regions now was same)) kept.disjoint;
       over = still-over now was same c.self.inside.modules.items kept.over;
       free = still-free now was same c.self.inside.modules.items c.self.inside.free.items kept.free;
       few = still-few now was same kept.few;
       slots = kept.slots;
+      lost = kept.lost;
       room = λ e. no_room (sym c.if-self.false ∙ e);
     }
 
@@ -50,10 +57,15 @@ invariant_of-self-in_err-reserve_extents c =
     let same_free : map without_spare free ≡ map without_spare c.self.inside.free.items = written-same without_spare c.self.inside.free fs (c.reserve_extents.ensures.same ∙ ap (map without_spare) c.deref_mut-2.ensures.value) in
     let kept = c.self.invariant in
     record {
+      once = kept.once;
+      own = kept.own;
+      in_use = kept.in_use;
+      disjoint = subst (λ rs. IsDisjoint (with_regions rs)) (sym (same-regions now was same)) kept.disjoint;
       over = still-over now was same c.self.inside.modules.items kept.over;
       free = still-free-spare c.self.inside.modules.items now free c.self.inside.free.items same_free (still-free now was same c.self.inside.modules.items c.self.inside.free.items kept.free);
       few = still-few now was same kept.few;
       slots = kept.slots;
+      lost = kept.lost;
       room = λ e. no_room (sym c.if-self.false ∙ e);
     }
 
@@ -81,10 +93,15 @@ invariant_of-self-2 c =
     let extents : (place : ℕ) (d : RegionLabels) (e : FreeSpace) → place < length c.deref.result.now → HasExtentRoom (get_or c.deref.result.now place d) (get_or fs place e) = c.in_ok-reserve_extents.ensures.room in
     let seen : c.deref.result.now ≡ ws = c.deref.ensures.value ∙ written-is without_room c.self.inside.regions ws region_same in
     record {
+      once = kept.once;
+      own = kept.own;
+      in_use = kept.in_use;
+      disjoint = subst (λ rs. IsDisjoint (with_regions rs)) (sym (same-regions now was same)) kept.disjoint;
       over = still-over now was same c.self.inside.modules.items kept.over;
       free = still-free-spare c.self.inside.modules.items now free c.self.inside.free.items same_free (still-free now was same c.self.inside.modules.items c.self.inside.free.items kept.free);
       few = still-few now was same kept.few;
       slots = kept.slots;
+      lost = kept.lost;
       room = λ e. has-room ws now fs free (written-is without_room c.self.inside.regions ws region_same) (written-is without_spare c.self.inside.free fs space_same) labels
           (subst (λ (rs : List RegionLabels). (place : ℕ) (d : RegionLabels) (e : FreeSpace) → place < length rs → HasExtentRoom (get_or rs place d) (get_or fs place e)) seen extents);
     }
