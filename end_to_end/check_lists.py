@@ -137,6 +137,22 @@ def replaced_module():
     ]
 
 
+def missing_member():
+    """A namespace one of whose modules has no area: its labels are held, marked or not, and come back with the area."""
+    labels = zip(both(U1, 4 * MIB, 2 * MIB), both(U2, 8 * MIB, 2 * MIB, flags=UPDATING))
+    first, second = [list(own) for own in labels]
+    one, two = held(U1, 4 * MIB, 2 * MIB), held(U2, 8 * MIB, 2 * MIB, updating="yes")
+    yield image(first, None), [
+        ("list-held dimm=1", 0, one + two + "ok held=2 spare=508\n"),
+        ("list", 0, NO_SPACES),
+        ("list-free region=1", 1, "refused not-ready missing dimm=0x00000101\n"),
+    ]
+    yield image(first, second), [
+        ("list", 0, space(U1, 4 * MIB, 2 * MIB) + space(U2, 8 * MIB, 2 * MIB, pending="yes") + "ok namespaces=2\n"),
+        ("list-held dimm=1", 0, "ok held=0 spare=508\n"),
+    ]
+
+
 def clash():
     """Two whole uuids that overlap, and a region beside them that is Ready."""
     lone = Region(2, 0x10_0000_0000, [Mapping(FIRST, 1, 8 * MIB, 0, PART)])
@@ -256,7 +272,7 @@ def largest_areas():
 
 
 IMAGES = [
-    empty_pair, namespaces, stopped_create, replaced_module, clash, foreign_labels, doubled, unusable, shared_module,
+    empty_pair, namespaces, stopped_create, replaced_module, missing_member, clash, foreign_labels, doubled, unusable, shared_module,
     states, largest_areas,
 ]
 
