@@ -11,3 +11,4 @@ pub mod Flipped
 pub mod Freed
 pub mod Sweeping
 pub mod SweptSets
+pub mod Put
