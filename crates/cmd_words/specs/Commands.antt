@@ -9,7 +9,7 @@ use Rattle.view_types.specs.declared.word_fault.WordFault.TheVariants.{Value}
 use Rattle.cmd_words.specs.declared.commands.Command.{Command}
 use Rattle.cmd_words.specs.declared.commands.Command.TheVariants as command
 use Rattle.cmd_words.specs.declared.commands.Verb.{Verb}
-use Rattle.cmd_words.specs.declared.commands.Verb.TheVariants.{InitLabels, ToModule, ToSpa, ToRuns}
+use Rattle.cmd_words.specs.declared.commands.Verb.TheVariants.{InitLabels, ListSpaces, ListRegions, ListFree, ListHeld, ToModule, ToSpa, ToRuns}
 use Rattle.cmd_words.specs.Keys.{given}
 use Rattle.cmd_words.specs.Numbers.{below, number, size}
 
@@ -17,17 +17,30 @@ use Rattle.cmd_words.specs.Numbers.{below, number, size}
 abbrev pub verb_of : List ℕ → Option Verb
 verb_of piece =
     if bytes_eq piece (codes "init-labels") then Some InitLabels
+    else if bytes_eq piece (codes "list") then Some ListSpaces
+    else if bytes_eq piece (codes "list-regions") then Some ListRegions
+    else if bytes_eq piece (codes "list-free") then Some ListFree
+    else if bytes_eq piece (codes "list-held") then Some ListHeld
     else if bytes_eq piece (codes "to-module") then Some ToModule
     else if bytes_eq piece (codes "to-spa") then Some ToSpa
     else if bytes_eq piece (codes "to-runs") then Some ToRuns
     else None
 
--- its keys, in the order in which they are tested; all of them are asked for
+-- its keys, in the order in which they are tested
 abbrev pub keys_of : Verb → List Key
 keys_of InitLabels = Dimm ∷ []
+keys_of ListSpaces = Region ∷ []
+keys_of ListRegions = []
+keys_of ListFree = Region ∷ []
+keys_of ListHeld = Dimm ∷ []
 keys_of ToModule = Region ∷ Spa ∷ []
 keys_of ToSpa = Region ∷ Dimm ∷ Dpa ∷ []
 keys_of ToRuns = Region ∷ Spa ∷ Length ∷ []
+
+-- those of them that may not be left out
+abbrev pub required_of : Verb → List Key
+required_of ListSpaces = []
+required_of verb = keys_of verb
 
 -- what the first of these pieces which gives a value to a key gives to it, as a number below a bound
 abbrev pub number_for : Key → ℕ → List (List ℕ) → Result ℕ WordFault
@@ -38,12 +51,25 @@ abbrev pub size_for : Key → List (List ℕ) → Result ℕ WordFault
 size_for key pieces = ok_or (below (2 ^ 64) (option_and_then size (given key pieces))) (Value key)
 
 -- what comes next, unless there is a fault
-abbrev pub and_then : Result ℕ WordFault → (ℕ → Result Command WordFault) → Result Command WordFault
+abbrev pub and_then : {A : Type 0} → Result A WordFault → (A → Result Command WordFault) → Result Command WordFault
 and_then (Ok value) next = next value
 and_then (Err fault) next = Err fault
 
 abbrev pub region_then : List (List ℕ) → (ℕ → Result Command WordFault) → Result Command WordFault
 region_then pieces next = and_then (number_for Region (2 ^ 16) pieces) next
+
+-- a value that may be left out: what it is where it is given
+abbrev pub value_if : Option (List ℕ) → Result ℕ WordFault → Result (Option ℕ) WordFault
+value_if None value = Ok None
+value_if (Some text) (Ok value) = Ok (Some value)
+value_if (Some text) (Err fault) = Err fault
+
+-- the index of a region, where a piece gives one
+abbrev pub optional_region : List (List ℕ) → Result (Option ℕ) WordFault
+optional_region pieces = value_if (given Region pieces) (number_for Region (2 ^ 16) pieces)
+
+abbrev pub optional_region_then : List (List ℕ) → (Option ℕ → Result Command WordFault) → Result Command WordFault
+optional_region_then pieces next = and_then (optional_region pieces) next
 
 abbrev pub dimm_then : List (List ℕ) → (ℕ → Result Command WordFault) → Result Command WordFault
 dimm_then pieces next = and_then (number_for Dimm (2 ^ 32) pieces) next
@@ -57,6 +83,10 @@ size_then key pieces next = and_then (size_for key pieces) next
 -- the command with the values of its keys, or the first that is not of its kind
 abbrev pub command_of : Verb → List (List ℕ) → Result Command WordFault
 command_of InitLabels pieces = dimm_then pieces (λ dimm. Ok (command.InitLabels dimm))
+command_of ListSpaces pieces = optional_region_then pieces (λ region. Ok (command.ListSpaces region))
+command_of ListRegions pieces = Ok command.ListRegions
+command_of ListFree pieces = region_then pieces (λ region. Ok (command.ListFree region))
+command_of ListHeld pieces = dimm_then pieces (λ dimm. Ok (command.ListHeld dimm))
 command_of ToModule pieces = region_then pieces (λ region. address_then Spa pieces (λ spa. Ok (command.ToModule region spa)))
 command_of ToSpa pieces =
     region_then pieces (λ region. dimm_then pieces (λ dimm. address_then Dpa pieces (λ dpa. Ok (command.ToSpa region dimm dpa))))

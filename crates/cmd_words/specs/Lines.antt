@@ -7,7 +7,7 @@ use Rattle.view_types.specs.declared.word_fault.WordFault.{WordFault}
 use Rattle.view_types.specs.declared.word_fault.WordFault.TheVariants.{TooLong, Byte, Unknown, Key, Twice, Missing}
 use Rattle.cmd_words.specs.declared.commands.Command.{Command}
 use Rattle.cmd_words.specs.declared.commands.Verb.{Verb}
-use Rattle.cmd_words.specs.Commands.{command_of, keys_of, verb_of}
+use Rattle.cmd_words.specs.Commands.{command_of, keys_of, required_of, verb_of}
 use Rattle.cmd_words.specs.Keys.{given, gives, key_of}
 use Rattle.cmd_words.specs.Pieces.{pieces}
 
@@ -32,8 +32,8 @@ abbrev pub first_missing : List keys.Key → List (List ℕ) → Option keys.Key
 first_missing keys pieces = find (λ key. is_none (given key pieces)) keys
 
 -- the first fault of the pieces behind a command, before its values are looked at
-abbrev pub keys_fault : List keys.Key → List (List ℕ) → Option WordFault
-keys_fault keys pieces = option_or (first_fault keys [] pieces) (option_map Missing (first_missing keys pieces))
+abbrev pub keys_fault : Verb → List (List ℕ) → Option WordFault
+keys_fault verb pieces = option_or (first_fault (keys_of verb) [] pieces) (option_map Missing (first_missing (required_of verb) pieces))
 
 abbrev pub as_some : Result Command WordFault → Result (Option Command) WordFault
 as_some (Ok command) = Ok (Some command)
@@ -45,7 +45,7 @@ line_by_fault None verb more = as_some (command_of verb more)
 
 abbrev pub line_by_verb : Option Verb → List (List ℕ) → Result (Option Command) WordFault
 line_by_verb None more = Err Unknown
-line_by_verb (Some verb) more = line_by_fault (keys_fault (keys_of verb) more) verb more
+line_by_verb (Some verb) more = line_by_fault (keys_fault verb more) verb more
 
 -- a line without pieces is blank, and one whose first piece begins with `#` is a comment
 abbrev pub line_of : List (List ℕ) → Result (Option Command) WordFault

@@ -1,7 +1,7 @@
 //! The commands, with their keys, and the values that they take.
 
 ghost use Rattle.std.specs.Prelude.{◌≡◌, ◌+◌, ◌^◌};
-ghost use Rattle.cmd_words.specs.Commands.{command_of, keys_of, verb_of, number_for, size_for};
+ghost use Rattle.cmd_words.specs.Commands.{command_of, keys_of, number_for, optional_region, required_of, size_for, verb_of};
 ghost use Rattle.cmd_words.specs.Pieces.{pieces};
 
 use crate::keys::given;
@@ -13,6 +13,14 @@ use view_types::{Key, WordFault};
 pub enum Command {
     /// The label storage area of the module with this device handle is initialised.
     InitLabels { dimm: u32 },
+    /// The namespaces of a region, or of all regions that are Ready.
+    ListSpaces { region: Option<u16> },
+    /// All regions.
+    ListRegions,
+    /// The free extents of a region.
+    ListFree { region: u16 },
+    /// The held labels of the module with this device handle.
+    ListHeld { dimm: u32 },
     /// The module and the device physical address of a system physical address in a region.
     ToModule { region: u16, spa: u64 },
     /// The system physical address of a device physical address of a module in a region.
@@ -25,6 +33,10 @@ pub enum Command {
 #[derive(Clone, Copy, Debug, PartialEq, Eq)]
 pub(crate) enum Verb {
     InitLabels,
+    ListSpaces,
+    ListRegions,
+    ListFree,
+    ListHeld,
     ToModule,
     ToSpa,
     ToRuns,
@@ -37,6 +49,10 @@ impl Verb {
     {
         match piece {
             "init-labels" => Some(Verb::InitLabels),
+            "list" => Some(Verb::ListSpaces),
+            "list-regions" => Some(Verb::ListRegions),
+            "list-free" => Some(Verb::ListFree),
+            "list-held" => Some(Verb::ListHeld),
             "to-module" => Some(Verb::ToModule),
             "to-spa" => Some(Verb::ToSpa),
             "to-runs" => Some(Verb::ToRuns),
@@ -44,15 +60,27 @@ impl Verb {
         }
     }
 
-    /// The keys of the command, in the order in which they are tested. All of them are asked for.
+    /// The keys of the command, in the order in which they are tested.
     pub(crate) fn keys(self) -> &'static [Key]
         ensures { result.now ≡ keys_of self }
     {
         match self {
-            Verb::InitLabels => &[Key::Dimm],
+            Verb::InitLabels | Verb::ListHeld => &[Key::Dimm],
+            Verb::ListSpaces | Verb::ListFree => &[Key::Region],
+            Verb::ListRegions => &[],
             Verb::ToModule => &[Key::Region, Key::Spa],
             Verb::ToSpa => &[Key::Region, Key::Dimm, Key::Dpa],
             Verb::ToRuns => &[Key::Region, Key::Spa, Key::Length],
+        }
+    }
+
+    /// Those of the keys that may not be left out.
+    pub(crate) fn required(self) -> &'static [Key]
+        ensures { result.now ≡ required_of self }
+    {
+        match self {
+            Verb::ListSpaces => &[],
+            _ => self.keys(),
         }
     }
 
@@ -62,6 +90,14 @@ impl Verb {
     {
         match self {
             Verb::InitLabels => Ok(Command::InitLabels { dimm: dimm(text)? }),
+            Verb::ListSpaces => Ok(Command::ListSpaces {
+                region: optional_region(text)?,
+            }),
+            Verb::ListRegions => Ok(Command::ListRegions),
+            Verb::ListFree => Ok(Command::ListFree {
+                region: region(text)?,
+            }),
+            Verb::ListHeld => Ok(Command::ListHeld { dimm: dimm(text)? }),
             Verb::ToModule => Ok(Command::ToModule {
                 region: region(text)?,
                 spa: address(Key::Spa, text)?,
@@ -85,6 +121,16 @@ fn region(text: &str) -> Result<u16, WordFault>
     ensures { result ≡ number_for Key.Region (2 ^ 16) (pieces text.now) }
 {
     Ok(number(Key::Region, u16::MAX as u64, text)? as u16)
+}
+
+/// The index of a region, where a piece gives one.
+fn optional_region(text: &str) -> Result<Option<u16>, WordFault>
+    ensures { result ≡ optional_region (pieces text.now) }
+{
+    match given(Key::Region, text) {
+        None => Ok(None),
+        Some(_) => Ok(Some(region(text)?)),
+    }
 }
 
 /// A device handle.

@@ -50,21 +50,21 @@ fn read_pieces(line: &str) -> Result<Option<Command>, WordFault>
         return Ok(None);
     }
     let verb = Verb::of(piece).ok_or(WordFault::Unknown)?;
-    if let Some(fault) = keys_fault(verb.keys(), rest) {
+    if let Some(fault) = keys_fault(verb, rest) {
         return Err(fault);
     }
     Ok(Some(verb.command(rest)?))
 }
 
 /// The first fault of the pieces behind a command, before its values are looked at.
-fn keys_fault(keys: &[Key], text: &str) -> Option<WordFault>
+fn keys_fault(verb: Verb, text: &str) -> Option<WordFault>
     requires { length (pieces text.now) ≤ MOST_BYTES }
-    ensures { result ≡ keys_fault keys.now (pieces text.now) }
+    ensures { result ≡ keys_fault verb (pieces text.now) }
 {
-    if let Some(fault) = first_fault(keys, text) {
+    if let Some(fault) = first_fault(verb.keys(), text) {
         return Some(fault);
     }
-    let key = first_missing(keys, text)?;
+    let key = first_missing(verb.required(), text)?;
     Some(WordFault::Missing { key })
 }
 

@@ -16,6 +16,19 @@ fn commands(rt: HostRuntime) {
             "  init-labels   dimm=0xFFffffff  ",
             Some(Command::InitLabels { dimm: u32::MAX }),
         ),
+        ("list", Some(Command::ListSpaces { region: None })),
+        (
+            "list region=0xffff",
+            Some(Command::ListSpaces {
+                region: Some(u16::MAX),
+            }),
+        ),
+        ("list-regions", Some(Command::ListRegions)),
+        ("list-free region=1", Some(Command::ListFree { region: 1 })),
+        (
+            "list-held dimm=0x101",
+            Some(Command::ListHeld { dimm: 0x101 }),
+        ),
         (
             "to-module region=65535 spa=0x0000000100000000",
             Some(Command::ToModule {
@@ -74,6 +87,13 @@ fn faults(rt: HostRuntime) {
             "to-runs spa= length= region= length= spa=",
             WordFault::Twice { key: Key::Length },
         ),
+        ("list-regions region=1", WordFault::Key { piece: 1 }),
+        (
+            "list region=1 region=1",
+            WordFault::Twice { key: Key::Region },
+        ),
+        ("list region=", WordFault::Value { key: Key::Region }),
+        ("list-free", WordFault::Missing { key: Key::Region }),
         ("init-labels", WordFault::Missing { key: Key::Dimm }),
         ("to-runs length=x", WordFault::Missing { key: Key::Region }),
         (

@@ -4,6 +4,7 @@ pub mod Platforms
 pub mod Frees
 pub mod Rooms
 pub mod Viewed
+pub mod FreeRoom
 pub mod Turned
 pub mod Unwanted
 pub mod Swept

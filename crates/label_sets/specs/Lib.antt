@@ -7,3 +7,4 @@ pub mod Sets
 pub mod Room
 pub mod Kept
 pub mod Views
+pub mod Largest

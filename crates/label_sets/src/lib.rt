@@ -1,7 +1,9 @@
-//! The state that the label storage areas of all modules stand for, as it is read and shown (UEFI 2.7, section 13.19).
+//! The state that the label storage areas of all modules stand for, as it is read, shown and
+//! swept (UEFI 2.7, section 13.19).
 #![tactic(auto)]
 
 mod flips;
+mod largest;
 mod load;
 mod read;
 mod room;

@@ -109,7 +109,7 @@ impl Sets {
 }
 
 /// Where the region with an index stands among the regions.
-fn place_of(regions: &[RegionLabels], index: u16) -> Option<usize>
+pub(crate) fn place_of(regions: &[RegionLabels], index: u16) -> Option<usize>
     ensures { IsPlaceOf (map region_in regions.now) index result }
 {
     for (place, kept) in regions.iter().enumerate() {

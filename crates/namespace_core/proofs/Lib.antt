@@ -1,2 +1,5 @@
 pub mod Firsts
 pub mod Parts
+pub mod Unread
+pub mod ListedSpaces
+pub mod HeldLists

@@ -12,13 +12,17 @@ use Rattle.region_map.specs.Platforms.{region_at}
 abbrev pub refused_if : Bool → Refusal → Option Refusal
 refused_if applies refusal = if applies then Some refusal else None
 
+-- a refusal by the region with an index
+abbrev pub by_region : Platform → ℕ → (Region → Option Refusal) → Option Refusal
+by_region platform index refusal = option_and_then refusal (region_at platform index)
+
 -- no region has the index
 abbrev pub unknown_region : Platform → ℕ → Option Refusal
 unknown_region platform index = refused_if (is_none (region_at platform index)) (UnknownRegion index)
 
 -- the region cannot be used
 abbrev pub unusable : Platform → ℕ → Option Refusal
-unusable platform index = option_and_then (λ (region : Region). option_map Unusable region.rule) (region_at platform index)
+unusable platform index = by_region platform index (λ region. option_map Unusable region.rule)
 
 -- the first of the refusals of a command that applies
 abbrev pub first_of : List (Option Refusal) → Option Refusal

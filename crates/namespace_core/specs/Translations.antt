@@ -2,7 +2,6 @@
 -- order, and its reply where nothing refuses it.
 use Rattle.std.specs.Prelude.{◌≡◌, ℕ, ◌&&◌, ◌==◌, Bool, List, [], ◌∷◌, Option, Some, None, not, option_map}
 use Rattle.std.specs.List.{list_any}
-use Rattle.std.specs.Option.{option_and_then}
 use Rattle.view_types.specs.Intervals.{is_within}
 use Rattle.view_types.specs.declared.refusal.Refusal.{Refusal}
 use Rattle.view_types.specs.declared.refusal.Refusal.TheVariants.{NoTranslation, Outside, NotInRegion}
@@ -17,13 +16,9 @@ use Rattle.spa_translate.specs.Pairs.{IsPair, has_range, is_member}
 use Rattle.spa_translate.specs.Runs.{AreRuns}
 use Rattle.spa_translate.specs.Woven.{Woven}
 use Rattle.spa_translate.specs.declared.strand.Strand.{Strand}
-use Rattle.namespace_core.specs.declared.translations.Untranslated.{Untranslated}
-use Rattle.namespace_core.specs.declared.translations.Untranslated.TheVariants as untranslateds
-use Rattle.namespace_core.specs.Refusals.{IsReplyBy, first_of, refused_if, unknown_region, unusable}
-
--- a refusal by the region with an index
-abbrev pub by_region : Platform → ℕ → (Region → Option Refusal) → Option Refusal
-by_region platform index refusal = option_and_then refusal (region_at platform index)
+use Rattle.namespace_core.specs.declared.refusals.Unanswered.{Unanswered}
+use Rattle.namespace_core.specs.declared.refusals.Unanswered.TheVariants as unanswereds
+use Rattle.namespace_core.specs.Refusals.{IsReplyBy, by_region, first_of, refused_if, unknown_region, unusable}
 
 -- its addresses cannot be translated
 abbrev pub no_translation : Platform → ℕ → Option Refusal
@@ -66,9 +61,9 @@ pub record IsWoven (platform : Platform) (index : ℕ) (weave : Woven) : Type 0 
   pub weave_is : weave ≡ woven_of platform.tables region
 
 -- why there is none; nothing tells why memory was refused
-abbrev pub IsUntranslated : Platform → ℕ → Untranslated → Type 0
-IsUntranslated platform index (untranslateds.Refused refusal) = first_of (untranslated platform index []) ≡ Some refusal
-IsUntranslated platform index untranslateds.Memory = Unit {0}
+abbrev pub IsUntranslated : Platform → ℕ → Unanswered → Type 0
+IsUntranslated platform index (unanswereds.Refused refusal) = first_of (untranslated platform index []) ≡ Some refusal
+IsUntranslated platform index unanswereds.Memory = Unit {0}
 
 -- The module address behind an address of the region.
 pub record IsModuleOf (platform : Platform) (index spa : ℕ) (reply : Reply) : Type 0 where

@@ -1,8 +1,11 @@
 //! The commands on a platform: why each is refused, and its reply.
 #![tactic(auto)]
 
+mod lists;
+mod refusals;
 mod translations;
 
+pub use lists::{Query, show};
 pub use translations::{to_module, to_runs, to_spa};
 
 #[cfg(test)]

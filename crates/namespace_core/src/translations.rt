@@ -4,16 +4,11 @@ ghost use Rattle.std.specs.Prelude.{IfErr, IfOk};
 ghost use Rattle.region_map.specs.Platforms.{IsSound};
 ghost use Rattle.namespace_core.specs.Translations.{AreToRuns, IsToModule, IsToSpa, IsUntranslated, IsWoven};
 
+use crate::refusals::Unanswered;
 use region_map::Platform;
 use spa_translate::{CheckFault, Weave};
 use std::alloc::{AllocError, Global};
 use view_types::{Refusal, Reply};
-
-/// Why the addresses of a region are not translated.
-enum Untranslated {
-    Refused(Refusal),
-    Memory,
-}
 
 /// The module address (DPA) behind a system physical address (SPA) of a region.
 ///
@@ -30,8 +25,8 @@ pub fn to_module(
 {
     let weave = match woven(alloc, platform, region) {
         Ok(weave) => weave,
-        Err(Untranslated::Refused(refusal)) => return Ok(Reply::Refused(refusal)),
-        Err(Untranslated::Memory) => return Err(AllocError),
+        Err(Unanswered::Refused(refusal)) => return Ok(Reply::Refused(refusal)),
+        Err(Unanswered::Memory) => return Err(AllocError),
     };
     match weave.to_module(spa) {
         Some((dimm, dpa)) => Ok(Reply::Module { dimm, dpa }),
@@ -55,8 +50,8 @@ pub fn to_spa(
 {
     let weave = match woven(alloc, platform, region) {
         Ok(weave) => weave,
-        Err(Untranslated::Refused(refusal)) => return Ok(Reply::Refused(refusal)),
-        Err(Untranslated::Memory) => return Err(AllocError),
+        Err(Unanswered::Refused(refusal)) => return Ok(Reply::Refused(refusal)),
+        Err(Unanswered::Memory) => return Err(AllocError),
     };
     if !weave.is_member(dimm) {
         return Ok(Reply::Refused(Refusal::NotInRegion { dimm }));
@@ -84,8 +79,8 @@ pub fn to_runs(
 {
     let weave = match woven(alloc, platform, region) {
         Ok(weave) => weave,
-        Err(Untranslated::Refused(refusal)) => return Ok(Reply::Refused(refusal)),
-        Err(Untranslated::Memory) => return Err(AllocError),
+        Err(Unanswered::Refused(refusal)) => return Ok(Reply::Refused(refusal)),
+        Err(Unanswered::Memory) => return Err(AllocError),
     };
     if !weave.has_range(spa, length) {
         return Ok(Reply::Refused(Refusal::Outside));
@@ -94,22 +89,22 @@ pub fn to_runs(
 }
 
 /// The weave of a region, by which its addresses are translated.
-fn woven(alloc: Global, platform: &Platform, index: u16) -> Result<Weave, Untranslated>
+fn woven(alloc: Global, platform: &Platform, index: u16) -> Result<Weave, Unanswered>
     requires { IsSound platform.now }
     ensures weave { IfOk result (IsWoven platform.now index) }
     ensures fault { IfErr result (IsUntranslated platform.now index) }
 {
     let Some(region) = platform.region(index) else {
-        return Err(Untranslated::Refused(Refusal::UnknownRegion { region: index }));
+        return Err(Unanswered::Refused(Refusal::UnknownRegion { region: index }));
     };
     if let Some(rule) = region.rule {
-        return Err(Untranslated::Refused(Refusal::Unusable { rule }));
+        return Err(Unanswered::Refused(Refusal::Unusable { rule }));
     }
     match Weave::check(alloc, platform, region) {
         Ok(weave) => Ok(weave),
         Err(CheckFault::Fault(fault)) => {
-            Err(Untranslated::Refused(Refusal::NoTranslation { fault }))
+            Err(Unanswered::Refused(Refusal::NoTranslation { fault }))
         }
-        Err(CheckFault::Memory) => Err(Untranslated::Memory),
+        Err(CheckFault::Memory) => Err(Unanswered::Memory),
     }
 }

@@ -6,3 +6,4 @@ pub mod Endings
 pub mod Saying
 pub mod Ends
 pub mod Handles
+pub mod Shown

@@ -17,8 +17,8 @@ use Rattle.report_json.specs.Texts.{initialised_line}
 use Rattle.nd_cli.specs.declared.faults.Fault.{Fault}
 use Rattle.nd_cli.specs.declared.faults.Fault.TheVariants.{Words, Nfit, Area, Source, Limit, Memory}
 use Rattle.nd_cli.specs.declared.tasks.Task.{Task}
-use Rattle.nd_cli.specs.declared.tasks.Task.TheVariants.{Labels, Reply, Initialise}
-use Rattle.nd_cli.specs.Answers.{Answered, answer_to, init_answer, init_answer_at}
+use Rattle.nd_cli.specs.declared.tasks.Task.TheVariants.{Labels, Reply, Initialise, Show}
+use Rattle.nd_cli.specs.Answers.{Answered, init_answer, init_answer_at}
 use Rattle.nd_cli.specs.Outcomes.{IsAnswered, LeavesSaid, LeavesUnsaid, Outcome, Replies, Fails, text_of}
 use Rattle.nd_cli.specs.Stops.{IsLeft, LeavesAreas, LeftUnsaid, WritesOnly, named}
 use Rattle.nd_cli.specs.Texts.{fault_line}
@@ -61,6 +61,7 @@ acknowledges m task old mid (Fails fault) answered dimm is uninit n more said =
     absurd (other_text (m.areas old) dimm uninit 101 (drop 1 (fault_line fault)) n more (λ same. omega (arith, same)) (ap (take n) (sym (fault_line-error fault)) ∙ said))
 acknowledges m (Labels other) old mid (Replies accepted text) answered dimm is uninit n more said = absurd cc
 acknowledges m (Reply reply) old mid (Replies accepted text) answered dimm is uninit n more said = absurd cc
+acknowledges m (Show platform query) old mid (Replies accepted text) answered dimm is uninit n more said = absurd cc
 acknowledges m (Initialise other) old mid (Replies accepted text) answered dimm is uninit n more said =
     let answer : init_answer dimm (m.areas old) ≡ record { accepted = accepted; text = text; areas = m.areas mid } =
     subst (λ h. init_answer h (m.areas old) ≡ record { accepted = accepted; text = text; areas = m.areas mid }) (same_module other dimm is) answered in

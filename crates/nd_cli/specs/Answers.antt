@@ -1,5 +1,5 @@
 -- What a task is answered where nothing fails: all that is said, whether it was accepted, and the areas that are left.
-use Rattle.std.specs.Prelude.{ℕ, Bool, true, false, List, [], Option, Some, None}
+use Rattle.std.specs.Prelude.{◌≡◌, ℕ, Bool, true, false, List, [], Option, Some, None}
 use Rattle.std.specs.FinMap.{get}
 use Rattle.rig_trait.specs.Areas.{Areas}
 use Rattle.label_area.specs.declared.blocks.Current.{Current}
@@ -8,6 +8,10 @@ use Rattle.label_area.specs.Inits.{initialised, slots_of}
 use Rattle.label_area.specs.Modules.{area_kind, module_at}
 use Rattle.module_labels.specs.declared.kind.AreaKind.{AreaKind}
 use Rattle.module_labels.specs.declared.kind.AreaKind.TheVariants as kinds
+use Rattle.label_sets.specs.Loads.{stored_labels}
+use Rattle.namespace_core.specs.declared.lists.Query.{Query}
+use Rattle.namespace_core.specs.Lists.{IsShown}
+use Rattle.region_map.specs.declared.platform.Platform.{Platform}
 use Rattle.report_json.specs.Texts.{reply_text}
 use Rattle.view_types.specs.declared.refusal.Refusal.{Refusal}
 use Rattle.view_types.specs.declared.refusal.Refusal.TheVariants.{NotReady, AlreadyReady}
@@ -17,7 +21,7 @@ use Rattle.view_types.specs.declared.states.AreaState.{AreaState}
 use Rattle.view_types.specs.declared.states.AreaState.TheVariants as states
 use Rattle.view_types.specs.declared.states.Status.TheVariants.{Area}
 use Rattle.nd_cli.specs.declared.tasks.Task.{Task}
-use Rattle.nd_cli.specs.declared.tasks.Task.TheVariants.{Labels, Reply, Initialise}
+use Rattle.nd_cli.specs.declared.tasks.Task.TheVariants.{Labels, Reply, Initialise, Show}
 use Rattle.label_listing.specs.Listing.{listing}
 
 pub record Answered : Type 0 where
@@ -78,7 +82,14 @@ init_answer_at kind dimm areas = refused (init_refusal dimm kind) areas
 abbrev pub init_answer : ℕ → Areas → Answered
 init_answer dimm areas = init_answer_at (area_kind (get areas dimm)) dimm areas
 
-abbrev pub answer_to : Task → Areas → Answered
-answer_to (Labels dimm) areas = labels_answer dimm areas
-answer_to (Reply reply) areas = answered reply areas
-answer_to (Initialise dimm) areas = init_answer dimm areas
+-- what is asked of the state is shown of that which the areas of the platform's modules stand for, and they are kept
+pub record IsShownOf (platform : Platform) (query : Query) (areas : Areas) (answer : Answered) : Type 0 where
+  pub reply : replies.Reply
+  pub shown : IsShown platform (stored_labels platform.modules areas) query reply
+  pub answer_is : answered (Some reply) areas ≡ answer
+
+abbrev pub IsAnswerTo : Task → Areas → Answered → Type 0
+IsAnswerTo (Labels dimm) areas answer = labels_answer dimm areas ≡ answer
+IsAnswerTo (Reply reply) areas answer = answered reply areas ≡ answer
+IsAnswerTo (Initialise dimm) areas answer = init_answer dimm areas ≡ answer
+IsAnswerTo (Show platform query) areas answer = IsShownOf platform query areas answer

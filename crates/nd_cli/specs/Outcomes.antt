@@ -6,6 +6,11 @@ use Rattle.rig_trait.specs.Faults.{counted}
 use Rattle.rig_trait.specs.Frames.{IsTold, LeavesOnly, SayLeaves, SaysNothing, SaysOnly}
 use Rattle.rig_trait.specs.Sources.{Draws, TellsLeft}
 use Rattle.cmd_words.specs.Lines.{command_in}
+use Rattle.label_sets.specs.declared.load.SetFault.{SetFault}
+use Rattle.label_sets.specs.declared.load.SetFault.TheVariants as sets
+use Rattle.module_labels.specs.Labels as labels
+use Rattle.namespace_core.specs.declared.lists.Query.{Query}
+use Rattle.namespace_core.specs.Lists.{IsShown}
 use Rattle.nfit_tables.specs.Limits.{most_bytes}
 use Rattle.nfit_tables.specs.Reading.{table_of}
 use Rattle.region_map.specs.declared.platform.Platform.{Platform}
@@ -18,12 +23,12 @@ use Rattle.nd_cli.specs.declared.answers.Answer.TheVariants as answers
 use Rattle.nd_cli.specs.declared.faults.Fault.{Fault}
 use Rattle.nd_cli.specs.declared.faults.Fault.TheVariants.{Words, Nfit, Area, Source, Limit, Memory}
 use Rattle.nd_cli.specs.declared.tasks.Task.{Task}
-use Rattle.nd_cli.specs.declared.tasks.Task.TheVariants.{Labels, Reply, Initialise}
-use Rattle.nd_cli.specs.Answers.{answer_to, is_accepted_if, text_if}
+use Rattle.nd_cli.specs.declared.tasks.Task.TheVariants.{Labels, Reply, Initialise, Show}
+use Rattle.nd_cli.specs.Answers.{IsAnswerTo, is_accepted, is_accepted_if, text_if}
 use Rattle.nd_cli.specs.Statuses.{reply_code}
 use Rattle.nd_cli.specs.Stops.{IsLeft, LeftUnsaid, WritesOnly, named}
 use Rattle.nd_cli.specs.Tables.{IsAccepted, IsPlatformIn, is_of_source}
-use Rattle.nd_cli.specs.Tasks.{IsLineTask}
+use Rattle.nd_cli.specs.Tasks.{IsLineTask, has_module}
 use Rattle.nd_cli.specs.Texts.{fault_line}
 use Rattle.label_listing.specs.Listing.{loaded_listing}
 use Rattle.nd_cli.specs.Words.{Asked, LabelsOf, Line}
@@ -37,6 +42,11 @@ abbrev pub outcome_of : Result Answer Fault → Outcome
 outcome_of (Ok (answers.Labels area)) = Replies true (loaded_listing area)
 outcome_of (Ok (answers.Reply reply)) = Replies (is_accepted_if reply) (text_if reply)
 outcome_of (Err fault) = Fails fault
+
+-- why the state of a platform's modules is not read
+abbrev pub fault_by : SetFault → Fault
+fault_by (sets.Failed dimm) = Area dimm
+fault_by sets.Memory = Memory
 
 abbrev pub fault_status : Fault → ℕ
 fault_status Words = 2
@@ -70,31 +80,42 @@ abbrev pub is_source_fault : Outcome → Bool
 is_source_fault (Replies accepted text) = false
 is_source_fault (Fails fault) = is_of_source fault
 
--- the module whose area is asked for something
-abbrev pub module_asked : Task → Option ℕ
-module_asked (Labels dimm) = Some dimm
-module_asked (Reply reply) = None
-module_asked (Initialise dimm) = Some dimm
+-- the area of a module is asked for something
+abbrev pub AsksModule : Task → ℕ → Type 0
+AsksModule (Labels asked) dimm = asked ≡ dimm
+AsksModule (Reply reply) dimm = ⊥
+AsksModule (Initialise asked) dimm = asked ≡ dimm
+AsksModule (Show platform query) dimm = has_module platform dimm ≡ true
 
--- A task that asks no area for anything has the same reply at every rig.
+-- what is asked of the state is shown of some labels
+pub record ShowsSome (platform : Platform) (query : Query) (accepted : Bool) (text : List ℕ) : Type 0 where
+  pub labels : labels.Labels
+  pub reply : replies.Reply
+  pub shown : IsShown platform labels query reply
+  pub accepted_is : accepted ≡ is_accepted reply
+  pub text_is : text ≡ reply_text reply
+
+-- A task that asks no area for anything has the same reply at every rig. What is shown of the state is shown of some
+-- labels also where the rig tells nothing.
 abbrev pub IsReply : Task → Bool → List ℕ → Type 0
 IsReply (Labels dimm) accepted text = Unit {0}
 IsReply (Reply reply) accepted text = (accepted ≡ is_accepted_if reply) × (text ≡ text_if reply)
 IsReply (Initialise dimm) accepted text = Unit {0}
+IsReply (Show platform query) accepted text = ShowsSome platform query accepted text
 
 -- What a task may come to, at every rig; nothing tells why memory was refused.
 abbrev pub IsDone : Task → Outcome → Type 0
 IsDone task (Replies accepted text) = IsReply task accepted text
 IsDone task (Fails Words) = ⊥
 IsDone task (Fails (Nfit fault)) = ⊥
-IsDone task (Fails (Area dimm)) = module_asked task ≡ Some dimm
+IsDone task (Fails (Area dimm)) = AsksModule task dimm
 IsDone task (Fails Source) = ⊥
 IsDone task (Fails Limit) = ⊥
 IsDone task (Fails Memory) = Unit {0}
 
 -- a reply is the answer to the task, and leaves its areas
 abbrev pub IsAnswered : {R : Type 0} → rigs.Ghosts R → Task → R → R → Outcome → Type 0
-IsAnswered m task old new (Replies accepted text) = answer_to task (m.areas old) ≡ record { accepted = accepted; text = text; areas = m.areas new }
+IsAnswered m task old new (Replies accepted text) = IsAnswerTo task (m.areas old) (record { accepted = accepted; text = text; areas = m.areas new })
 IsAnswered m task old new (Fails fault) = Unit {0}
 
 -- the faults of a rig are the one at an area that ended the run, or none

@@ -9,13 +9,14 @@ use Rattle.label_area.specs.Modules.{area_kind}
 use Rattle.module_labels.specs.declared.kind.AreaKind.TheVariants.{Uninit}
 use Rattle.report_json.specs.Texts.{initialised_line}
 use Rattle.nd_cli.specs.declared.tasks.Task.{Task}
-use Rattle.nd_cli.specs.declared.tasks.Task.TheVariants.{Labels, Reply, Initialise}
+use Rattle.nd_cli.specs.declared.tasks.Task.TheVariants.{Labels, Reply, Initialise, Show}
 
 -- the module whose area a task initialises
 abbrev pub named : Task → Option ℕ
 named (Labels dimm) = None
 named (Reply reply) = None
 named (Initialise dimm) = Some dimm
+named (Show platform query) = None
 
 -- Only the area that is named may be written, and that only where it is Uninit.
 pub record WritesOnly (named : Option ℕ) (areas now : Areas) : Type 0 where

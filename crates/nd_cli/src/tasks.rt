@@ -3,10 +3,10 @@
 ghost use Rattle.std.specs.Prelude.{◌≡◌, IfOk};
 ghost use Rattle.cmd_words.specs.Lines.{command_in};
 ghost use Rattle.region_map.specs.Platforms.{IsSound};
-ghost use Rattle.nd_cli.specs.Tasks.{IsCommandTask, IsLineTask, init_task};
+ghost use Rattle.nd_cli.specs.Tasks.{IsCommandTask, IsLineTask, IsSoundTask, init_task};
 
 use cmd_words::{Command, read_line};
-use namespace_core::{to_module, to_runs, to_spa};
+use namespace_core::{Query, to_module, to_runs, to_spa};
 use region_map::Platform;
 use std::alloc::{AllocError, Global};
 use view_types::{Refusal, Reply};
@@ -20,13 +20,16 @@ pub enum Task {
     Reply(Option<Reply>),
     /// It initialises the label storage area of the module with this device handle.
     Initialise { dimm: u32 },
+    /// It reads the state of the modules of a platform, and shows what is asked of it.
+    Show { platform: Platform, query: Query },
 }
 
 impl Task {
     /// What a line asks for, on a platform.
-    pub fn of_line(alloc: Global, platform: &Platform, line: &str) -> Result<Task, AllocError>
-        requires sound { IsSound platform.now }
-        ensures { IfOk result (IsLineTask platform.now (command_in line.now)) }
+    pub fn of_line(alloc: Global, platform: Platform, line: &str) -> Result<Task, AllocError>
+        requires sound { IsSound platform }
+        ensures task { IfOk result (IsLineTask platform (command_in line.now)) }
+        ensures sound { IfOk result IsSoundTask }
     {
         match read_line(line.as_bytes()) {
             Ok(None) => Ok(Task::Reply(None)),
@@ -37,19 +40,36 @@ impl Task {
 }
 
 /// What a command asks for, on a platform.
-fn of_command(alloc: Global, platform: &Platform, command: Command) -> Result<Task, AllocError>
-    requires sound { IsSound platform.now }
-    ensures { IfOk result (IsCommandTask platform.now command) }
+fn of_command(alloc: Global, platform: Platform, command: Command) -> Result<Task, AllocError>
+    requires sound { IsSound platform }
+    ensures task { IfOk result (IsCommandTask platform command) }
+    ensures sound { IfOk result IsSoundTask }
 {
     let reply = match command {
-        Command::InitLabels { dimm } => return Ok(init_task(platform, dimm)),
-        Command::ToModule { region, spa } => to_module(alloc, platform, region, spa)?,
-        Command::ToSpa { region, dimm, dpa } => to_spa(alloc, platform, region, dimm, dpa)?,
+        Command::InitLabels { dimm } => return Ok(init_task(&platform, dimm)),
+        Command::ListSpaces { region } => return Ok(Task::Show {
+            platform,
+            query: Query::Spaces { region },
+        }),
+        Command::ListRegions => return Ok(Task::Show {
+            platform,
+            query: Query::Regions,
+        }),
+        Command::ListFree { region } => return Ok(Task::Show {
+            platform,
+            query: Query::Free { region },
+        }),
+        Command::ListHeld { dimm } => return Ok(Task::Show {
+            platform,
+            query: Query::Held { dimm },
+        }),
+        Command::ToModule { region, spa } => to_module(alloc, &platform, region, spa)?,
+        Command::ToSpa { region, dimm, dpa } => to_spa(alloc, &platform, region, dimm, dpa)?,
         Command::ToRuns {
             region,
             spa,
             length,
-        } => to_runs(alloc, platform, region, spa, length)?,
+        } => to_runs(alloc, &platform, region, spa, length)?,
     };
     Ok(Task::Reply(Some(reply)))
 }

@@ -32,6 +32,13 @@ const FOREIGN: &str = "refused not-ready foreign dimm=0x00000001\n";
 
 const AREA_FAILED: &str = "error area dimm=0x00000001\n";
 
+const OTHER_FAILED: &str = "error area dimm=0x00000101\n";
+
+const OTHER_MISSING: &str = "refused not-ready missing dimm=0x00000101\n";
+
+const REGIONS: &str =
+    "  region index=1 spa=0x0000000100000000 size=137438953472 ways=2 cookie=0x0002e2420000346b status=missing dimm=0x00000101\nok regions=1\n";
+
 /// The words of a command line without quotes.
 fn words(alloc: Global, line: &str) -> Result<Vec<String>, AllocError> {
     let mut words = Vec::new(alloc);
@@ -286,6 +293,32 @@ fn faults(rt: HostRuntime) -> Result<(), Fail> {
         let mut rig = MemoryRig::new(alloc, room)?;
         rig.add(1, area.clone()?)?;
         rig.fail_at(listed.to_vec(alloc)?);
+        run_on(&rt, alloc, &mut rig, row)?;
+        assert_eq!(rt; rig.reads(), reads);
+        expect_area(&rt, &rig, &area)?;
+    }
+    Ok(())
+}
+
+/// The call that fails, how often the rig is read, and what is said of two modules of which one has no area.
+const LISTS: [(u64, u64, Row); 7] = [
+    (9, 3, Row("do . list-regions", 0, REGIONS)),
+    (0, 1, Row("do . list", 4, AREA_FAILED)),
+    (1, 2, Row("do . list-held dimm=1", 4, AREA_FAILED)),
+    (2, 3, Row("do . list-free region=1", 4, OTHER_FAILED)),
+    (9, 3, Row("do . list region=1", 1, OTHER_MISSING)),
+    (9, 3, Row("do . list-held dimm=1", 0, "ok held=0 spare=2\n")),
+    (3, 3, Row("do . list", 7, "")),
+];
+
+#[test]
+fn lists(rt: HostRuntime) -> Result<(), Fail> {
+    let alloc = rt.alloc();
+    let area = initialised(alloc, FREE)?;
+    for (call, reads, row) in LISTS {
+        let mut rig = MemoryRig::new(alloc, 256)?;
+        rig.add(1, area.clone()?)?;
+        rig.fail_at(vec![in alloc; call]?);
         run_on(&rt, alloc, &mut rig, row)?;
         assert_eq!(rt; rig.reads(), reads);
         expect_area(&rt, &rig, &area)?;

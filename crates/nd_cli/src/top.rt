@@ -84,7 +84,7 @@ fn do_line<R: Rig, N: Source>(
         Ok(platform) => platform,
         Err(fault) => return Err(fault),
     };
-    let task = Task::of_line(alloc, &platform, line)?;
+    let task = Task::of_line(alloc, platform, line)?;
     do_task(alloc, rig, task)
 }
 

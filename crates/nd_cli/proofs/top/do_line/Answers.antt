@@ -19,5 +19,5 @@ returns-in_err-task-clause-came g c =
 pub returns-clause-came : goal.returns-clause-came
 returns-clause-came g c =
     comes_done g.R.Shown g.N.Source (Line c.args.line.now) _ c.args.rig.now c.do_task.new.rig c.args.nfit.now c.read_platform.new.source (outcome_of c.do_task.result)
-    (record { platform = c.in-Ok.platform; sound = c.in-Ok.ensures.sound; read = c.in-Ok.ensures.platform; asked = c.in_ok-task.ensures })
+    (record { platform = c.in-Ok.platform; sound = c.in-Ok.ensures.sound; read = c.in-Ok.ensures.platform; asked = c.in_ok-task.ensures.task })
     c.in-Ok.ensures.draws c.do_task.ensures.does c.do_task.ensures.says_nothing c.do_task.ensures.any_moment

@@ -1,0 +1,6 @@
+pub mod Ordered
+pub mod Counted
+pub mod Neighbours
+pub mod Standing
+pub mod Unready
+pub mod Pendings

@@ -1,0 +1,5 @@
+pub mod Spaces
+pub mod Named
+pub mod Tallies
+pub mod Holders
+pub mod Positions

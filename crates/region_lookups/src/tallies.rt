@@ -1,0 +1,146 @@
+//! Namespaces that are looked for among all those of a region.
+
+ghost use Rattle.std.specs.Prelude.{◌≡◌, ◌+◌, ◌<◌, ◌++◌, ◌∷◌, ◌^◌, [], true, Bool, List, count_by, find};
+ghost use Rattle.std.specs.Option.{option_and_then, option_copied, option_to_list};
+ghost use Rattle.view_types.specs.declared.namespaces.Namespace.{Namespace};
+ghost use Rattle.label_codec.specs.Names.{name_before_zero};
+ghost use Rattle.region_sets.specs.Marks.{namespace_at};
+ghost use Rattle.region_sets.specs.Modules.{labels_in};
+ghost use Rattle.region_sets.specs.Regions.{IsOver};
+ghost use Rattle.region_lookups.specs.Spaces.{has_name, is_before, is_sought, listed_spaces};
+ghost use Rattle.region_lookups.specs.Tallies.{IsFirst, IsFirstSuch, IsTally};
+
+use label_codec::Label;
+use region_sets::{LoadedModule, RegionLabels};
+use view_types::Namespace;
+
+/// Which namespaces of a region are looked for.
+#[derive(Clone, Copy)]
+pub(crate) enum Sought {
+    All,
+    Named { name: [u8; 64] },
+    /// Those with this name, but the one with this uuid.
+    NamedBeside { name: [u8; 64], uuid: [u8; 16] },
+    Pending,
+    /// Those that stand behind this one, by offset and then by uuid.
+    After { last: Namespace },
+}
+
+/// The number of namespaces that are looked for, and the first of them by offset and then by uuid.
+#[derive(Clone, Copy)]
+pub(crate) struct Tally {
+    pub(crate) count: u32,
+    pub(crate) first: Option<Namespace>,
+}
+
+/// The namespaces of the region that are looked for.
+pub(crate) fn tally_of(modules: &[LoadedModule], kept: &RegionLabels, sought: &Sought) -> Tally
+    requires { IsOver modules.now kept.now }
+    ensures count { result.count ≡
+        count_by (is_sought sought.now) (listed_spaces (labels_in modules.now) kept.now.region) }
+    ensures first { result.first ≡
+        find (is_sought sought.now) (listed_spaces (labels_in modules.now) kept.now.region) }
+{
+    let mut tally = Tally {
+        count: 0,
+        first: None,
+    };
+    if kept.region.members.len() == 0 {
+        return tally;
+    }
+    let leading = kept.module_at(modules, 0);
+    for slot in 0..leading.slots() {
+        tally = tally.with(sought, namespace_of(modules, kept, leading.label(slot)));
+    }
+    tally
+}
+
+/// The namespace of the region with a label's uuid.
+fn namespace_of(
+    modules: &[LoadedModule],
+    kept: &RegionLabels,
+    label: Option<&Label>,
+) -> Option<Namespace>
+    requires { IsOver modules.now kept.now }
+    ensures { result ≡ option_and_then (λ l. namespace_at (labels_in modules.now) kept.now.region l.uuid)
+        (option_copied label.entry) }
+{
+    kept.namespace(modules, &label?.uuid)
+}
+
+impl Tally {
+    /// With one namespace more, where it is looked for.
+    fn with(self, sought: &Sought, space: Option<Namespace>) -> Tally
+        requires { self.count + 1 < 2 ^ 32 }
+        ensures { (spaces : List Namespace) → IsTally (is_sought sought.now) spaces self
+            → IsTally (is_sought sought.now) (spaces ++ option_to_list space) result }
+    {
+        let Some(space) = space else {
+            return self;
+        };
+        if !sought.matches(&space) {
+            return self;
+        }
+        Tally {
+            count: self.count + 1,
+            first: Some(self.first_with(space)),
+        }
+    }
+
+    /// The first one, with one namespace more.
+    fn first_with(self, space: Namespace) -> Namespace
+        ensures { (test : Namespace → Bool) (spaces : List Namespace) → IsFirst test spaces self.first
+            → test space ≡ true → IsFirstSuch test (spaces ++ space ∷ []) result }
+    {
+        match self.first {
+            Some(first) => {
+                if is_before(&space, &first) {
+                    space
+                } else {
+                    first
+                }
+            }
+            None => space,
+        }
+    }
+}
+
+impl Sought {
+    /// A namespace is looked for.
+    fn matches(&self, space: &Namespace) -> bool
+        ensures { result ≡ is_sought self.now space.now }
+    {
+        match self {
+            Sought::All => true,
+            Sought::Named { name } => has_name(name, space),
+            Sought::NamedBeside { name, uuid } => has_name(name, space) && *uuid != space.uuid,
+            Sought::Pending => space.pending,
+            Sought::After { last } => is_before(last, space),
+        }
+    }
+}
+
+/// The namespace has this name, up to the first zero byte of each.
+fn has_name(name: &[u8; 64], space: &Namespace) -> bool
+    ensures { result ≡ has_name name.now space.now }
+{
+    before_zero(name) == before_zero(&space.name)
+}
+
+/// The bytes before the first zero byte.
+fn before_zero(name: &[u8; 64]) -> &[u8]
+    ensures { result.now ≡ name_before_zero name.now }
+{
+    let end = name
+        .iter()
+        .position(|byte| *byte == 0)
+        .unwrap_or(name.len());
+    &name[..end]
+}
+
+/// One namespace stands before another, by offset and then by uuid.
+fn is_before(a: &Namespace, b: &Namespace) -> bool
+    ensures { result ≡ is_before a.now b.now }
+{
+    a.offset.cmp(&b.offset).then(a.uuid.cmp(&b.uuid)).is_lt()
+}
