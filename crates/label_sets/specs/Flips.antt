@@ -127,7 +127,8 @@ pub record CanPut (m : LoadedModule) (replaces : Option ℕ) : Type 0 where
 -- the labels of all modules after a label is put into a slot of one of them
 abbrev pub with_put_at : ℕ → ℕ → Label → Option ℕ → Labels → Labels
 with_put_at dimm slot label replaces labels = with_module dimm
-    (labels_flip.with_label slot (at_slot slot label) (without_slots (is_among (replaced replaces)) (labels dimm))) labels
+    (labels_flip.with_label slot (at_slot slot label)
+    (without_slots (is_among (replaced replaces)) (labels dimm))) labels
 
 -- a label is put into the module at a seat, and all else stays
 pub record IsPutAt (before after : List LoadedModule) (seat : ℕ) (label : Label)
