@@ -76,10 +76,10 @@ module _ (ms : List LoadedModule) (seat : ℕ) (lt : seat < length ms) (once : E
   abbrev pub here : LoadedModule
   here = get_or ms seat x
 
-  at-seat : (d : LoadedModule) → get_or ms seat d ≡ here
+  pub at-seat : (d : LoadedModule) → get_or ms seat d ≡ here
   at-seat d = sym (get_or_read ms seat x lt is d) ∙ is
 
-  new-at : (d : LoadedModule) → get_or (set ms seat new) seat d ≡ new
+  pub new-at : (d : LoadedModule) → get_or (set ms seat new) seat d ≡ new
   new-at d = get_or-set_same ms seat new d lt
 
   pub changed : IsChangedAt ms (set ms seat new) seat
@@ -88,7 +88,7 @@ module _ (ms : List LoadedModule) (seat : ℕ) (lt : seat < length ms) (once : E
   pub seat-dimm : dimm_at ms seat ≡ here.dimm
   seat-dimm = dimm-at ms seat here lt ∙ ap dimm_of (at-seat here)
 
-  own-labels : labels_in ms (dimm_at ms seat) ≡ module_in here
+  pub own-labels : labels_in ms (dimm_at ms seat) ≡ module_in here
   own-labels = labels-at ms seat here once lt ∙ ap module_in (at-seat here)
 
   pub stands-after : (areas now : Areas) → OthersKept (dimm_at ms seat) areas now → All (StandsIn areas) ms → StandsIn now new → All (StandsIn now) (set ms seat new)

@@ -12,3 +12,4 @@ pub mod Flipped
 pub mod Freed
 pub mod Sweeping
 pub mod SweptSets
+pub mod Put

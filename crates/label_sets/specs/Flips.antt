@@ -1,11 +1,13 @@
 -- What one flip makes of a module that was loaded.
-use Rattle.std.specs.Prelude.{◌≡◌, ℕ, ◌&&◌, Bool, false, true, not, List, Some, IsTrue, slice_index_or}
+use Rattle.std.specs.Prelude.{◌≡◌, ℕ, ◌&&◌, Bool, false, true, not, List, Option, Some, IfSome, IsSome, IsTrue}
+use Rattle.std.specs.Prelude.{slice_index_or}
 use Rattle.std.specs.List.{All}
 use Rattle.rig_trait.specs.Areas.{Areas, size_in}
 use Rattle.label_codec.specs.declared.label.Label.{Label}
+use Rattle.module_labels.specs.Flips as labels_flip
 use Rattle.module_labels.specs.Flips.{with_module, without_slots}
 use Rattle.module_labels.specs.Labels.{Labels}
-use Rattle.label_area.specs.Flips.{Standing, is_among}
+use Rattle.label_area.specs.Flips.{HasFree, Standing, at_slot, first_slot, is_among, replaced, with_label}
 use Rattle.label_area.specs.LoadedAreas.{is_used}
 use Rattle.region_sets.specs.declared.modules.LoadedModule.{LoadedModule}
 use Rattle.region_sets.specs.declared.modules.ModuleArea.{ModuleArea}
@@ -87,3 +89,54 @@ pub record IsFreedAt (before after : List LoadedModule) (seat : ℕ) (slots : Li
       ≡ loaded.size_in (slice_index_or before seat d)
   pub standing : (d : LoadedModule) → standing_in (slice_index_or after seat d)
       ≡ with_free slots (standing_in (slice_index_or before seat d))
+
+-- a slot of a Ready area is free
+abbrev pub HasFreeIn : ModuleArea → Type 0
+HasFreeIn Missing = ⊥
+HasFreeIn (WrongSize size) = ⊥
+HasFreeIn (Uninit size) = ⊥
+HasFreeIn (Foreign size) = ⊥
+HasFreeIn (Ready area) = HasFree area
+
+abbrev pub first_slot_by : ModuleArea → ℕ
+first_slot_by Missing = 0
+first_slot_by (WrongSize size) = 0
+first_slot_by (Uninit size) = 0
+first_slot_by (Foreign size) = 0
+first_slot_by (Ready area) = first_slot area
+
+-- the least free slot of the module
+abbrev pub first_slot_in : LoadedModule → ℕ
+first_slot_in m = first_slot_by m.area
+
+-- after a label is put into a slot, and the slot of the one that it replaces is freed
+abbrev pub with_put : ℕ → Label → Option ℕ → Standing → Standing
+with_put slot label replaces standing = with_label slot label (with_free (replaced replaces) standing)
+
+-- the slot of a label that is replaced has one
+abbrev pub IsReplaced : LoadedModule → Option ℕ → Type 0
+IsReplaced m replaces = IfSome replaces (λ slot. IsSome ((module_in m).at slot))
+
+-- a label can be put into the module, in place of the one in a slot, or of none
+pub record CanPut (m : LoadedModule) (replaces : Option ℕ) : Type 0 where
+  pub free : HasFreeIn m.area
+  pub own : IsOwn m
+  pub in_use : HasLabelsInUse m
+  pub replaced : IsReplaced m replaces
+
+-- the labels of all modules after a label is put into a slot of one of them
+abbrev pub with_put_at : ℕ → ℕ → Label → Option ℕ → Labels → Labels
+with_put_at dimm slot label replaces labels = with_module dimm
+    (labels_flip.with_label slot (at_slot slot label)
+    (without_slots (is_among (replaced replaces)) (labels dimm))) labels
+
+-- a label is put into the module at a seat, and all else stays
+pub record IsPutAt (before after : List LoadedModule) (seat : ℕ) (label : Label)
+    (replaces : Option ℕ) : Type 0 where
+  pub changed : IsChangedAt before after seat
+  pub own : (d : LoadedModule) → IsOwn (slice_index_or after seat d)
+  pub size : (d : LoadedModule) → loaded.size_in (slice_index_or after seat d)
+      ≡ loaded.size_in (slice_index_or before seat d)
+  pub standing : (d : LoadedModule) → standing_in (slice_index_or after seat d)
+      ≡ with_put (first_slot_in (slice_index_or before seat d)) label replaces
+      (standing_in (slice_index_or before seat d))

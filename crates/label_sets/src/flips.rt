@@ -1,21 +1,24 @@
 //! One flip of one module.
 
-ghost use Rattle.std.specs.Prelude.{◌≡◌, ◌<◌, IfErr, IsTrue, OnErr, OnOk, length, map, slice_index_or};
+ghost use Rattle.std.specs.Prelude.{◌≡◌, ◌<◌, IfErr, IfOk, IsTrue, None, OnErr, OnOk, length, map, slice_index_or};
 ghost use Rattle.std.specs.List.{All, AllZip};
 ghost use Rattle.std.specs.Result.{is_err};
 ghost use Rattle.rig_trait.specs.Frames.{FailsAt, IsTold, LeavesOnly, WritesTo};
 ghost use Rattle.label_area.specs.Flips.{LeftByFlip};
 ghost use Rattle.region_sets.specs.declared.modules.LoadedModule.{LoadedModule};
-ghost use Rattle.region_sets.specs.Modules.{EachOnce, dimm_of, labels_in, size_in};
+ghost use Rattle.region_sets.specs.Modules.{EachOnce, dimm_of, labels_in, module_in, size_in};
 ghost use Rattle.region_sets.specs.Regions.{IsOver};
 ghost use Rattle.region_changes.specs.Changes.{dimm_at};
-ghost use Rattle.region_changes.specs.Rooms.{KeepsRegion, room_after_free};
+ghost use Rattle.region_changes.specs.Rooms.{HasRoomFor, KeepsRegion, room_after_free};
+ghost use Rattle.region_changes.specs.SlotLabels.{replaced_label};
 ghost use Rattle.label_sets.specs.Flips.{CanFree, IsFreedAt, IsOwn, IsReadyArea, IsSizedIn, is_used_in, standing_in};
-ghost use Rattle.label_sets.specs.Flips.{with_free, without_slots_at};
+ghost use Rattle.label_sets.specs.Flips.{CanPut, HasFreeIn, IsPutAt, IsReplaced, first_slot_in, with_free, with_put};
+ghost use Rattle.label_sets.specs.Flips.{with_put_at, without_slots_at};
 ghost use Rattle.label_sets.specs.Loads.{StandsIn};
 ghost use Rattle.label_sets.specs.Passes.{IsOneOf, LeftIn};
 
-use region_changes::{SlotLabel, follow_free};
+use label_codec::Label;
+use region_changes::{SlotLabel, follow_free, follow_put, slot_label};
 use region_sets::{LoadedModule, ModuleArea, RegionLabels};
 use rig_trait::Rig;
 
@@ -103,5 +106,107 @@ pub(crate) fn free_at<R: Rig>(
             Ok(())
         }
         Err(failed) => Err(failed),
+    }
+}
+
+/// Puts a label into the least free slot of a module whose area is Ready, and frees the slot of a label that it
+/// replaces. It answers the slot.
+pub(crate) fn put_in<R: Rig>(
+    rig: &mut R,
+    loaded: &mut LoadedModule,
+    label: &Label,
+    replaces: Option<u32>,
+) -> Result<u32, AreaFailed>
+    requires free { HasFreeIn loaded.old.area }
+    requires replaces { IsReplaced loaded.old replaces }
+    requires own { IsOwn loaded.old }
+    requires sized { IsTold R.Shown rig.old → IsSizedIn (R.areas rig.old) loaded.old }
+    ensures slot { IfOk result (λ slot. slot ≡ first_slot_in loaded.old) }
+    ensures within { first_slot_in loaded.old < (module_in loaded.old).slots }
+    ensures was_free { (module_in loaded.old).at (first_slot_in loaded.old) ≡ None }
+    ensures put { OnOk result (standing_in loaded.new
+        ≡ with_put (first_slot_in loaded.old) label.now replaces (standing_in loaded.old)) }
+    ensures kept { OnErr result (loaded.new ≡ loaded.old) }
+    ensures dimm { loaded.new.dimm ≡ loaded.old.dimm }
+    ensures size { size_in loaded.new ≡ size_in loaded.old }
+    ensures own { IsOwn loaded.new }
+    ensures stands { IsTold R.Shown rig.old → StandsIn (R.areas rig.old) loaded.old
+        → OnOk result (StandsIn (R.areas rig.new) loaded.new) }
+    ensures any_moment { IsTold R.Shown rig.old → StandsIn (R.areas rig.old) loaded.old
+        → LeavesOnly R.Shown rig.old rig.new (LeftByFlip (R.areas rig.old) (R.said rig.old) loaded.old.dimm
+        (with_put (first_slot_in loaded.old) label.now replaces (standing_in loaded.old))) }
+    ensures writes_only { WritesTo loaded.old.dimm R.Shown rig.old rig.new }
+    ensures cause { FailsAt loaded.old.dimm R.Shown rig.old rig.new (is_err result) }
+    ensures names { IfErr result (λ failed. failed.dimm ≡ loaded.old.dimm) }
+    ensures reads { R.reads rig.new ≡ R.reads rig.old }
+{
+    let dimm = loaded.dimm;
+    match &mut loaded.area {
+        ModuleArea::Ready(area) => match area.put(rig, label, replaces) {
+            Ok(slot) => Ok(slot),
+            Err(_) => Err(AreaFailed { dimm }),
+        },
+        ModuleArea::Missing => unreachable!(),
+        ModuleArea::WrongSize { .. } => unreachable!(),
+        ModuleArea::Uninit { .. } => unreachable!(),
+        ModuleArea::Foreign { .. } => unreachable!(),
+    }
+}
+
+/// Puts a label into the module at a seat, in place of the one in a slot or of none, and the indexes of the regions
+/// follow. After a failure modules and regions are as before.
+pub(crate) fn put_at<R: Rig>(
+    rig: &mut R,
+    modules: &mut [LoadedModule],
+    regions: &mut [RegionLabels],
+    seat: usize,
+    label: &Label,
+    replaces: Option<u32>,
+) -> Result<(), AreaFailed>
+    requires within { seat < length modules.old }
+    requires put { (d : LoadedModule) → CanPut (slice_index_or modules.old seat d) replaces }
+    requires once { EachOnce modules.old }
+    requires over { All (IsOver modules.old) regions.old }
+    requires room { replaces ≡ None → All (HasRoomFor (dimm_at modules.old seat)) regions.old }
+    requires sized { IsTold R.Shown rig.old → All (IsSizedIn (R.areas rig.old)) modules.old }
+    ensures put { OnOk result (IsPutAt modules.old modules.new seat label.now replaces) }
+    ensures labels { (d : LoadedModule) → OnOk result (labels_in modules.new
+        ≡ with_put_at (dimm_at modules.old seat) (first_slot_in (slice_index_or modules.old seat d)) label.now replaces
+        (labels_in modules.old)) }
+    ensures over { OnOk result (All (IsOver modules.new) regions.new) }
+    ensures kept { OnErr result (modules.new ≡ modules.old) }
+    ensures kept_regions { OnErr result (regions.new ≡ regions.old) }
+    ensures stands { IsTold R.Shown rig.old → All (StandsIn (R.areas rig.old)) modules.old
+        → OnOk result (All (StandsIn (R.areas rig.new)) modules.new) }
+    ensures any_moment { (d : LoadedModule) → IsTold R.Shown rig.old → All (StandsIn (R.areas rig.old)) modules.old
+        → LeavesOnly R.Shown rig.old rig.new (LeftIn (map dimm_of modules.old) (R.said rig.old)
+        (IsOneOf (labels_in modules.old) (with_put_at (dimm_at modules.old seat)
+        (first_slot_in (slice_index_or modules.old seat d)) label.now replaces (labels_in modules.old)))) }
+    ensures writes_only { WritesTo (dimm_at modules.old seat) R.Shown rig.old rig.new }
+    ensures cause { FailsAt (dimm_at modules.old seat) R.Shown rig.old rig.new (is_err result) }
+    ensures names { IfErr result (λ failed. failed.dimm ≡ dimm_at modules.old seat) }
+    ensures reads { R.reads rig.new ≡ R.reads rig.old }
+{
+    let lost = replaced_label(&modules[seat], replaces);
+    match put_in(rig, &mut modules[seat], label, replaces) {
+        Ok(slot) => {
+            let gained = SlotLabel {
+                uuid: label.uuid,
+                slot,
+            };
+            follow_put(modules, seat, regions, &gained, &lost);
+            Ok(())
+        }
+        Err(failed) => Err(failed),
+    }
+}
+
+/// The label in the slot of one that is replaced.
+fn replaced_label(loaded: &LoadedModule, replaces: Option<u32>) -> Option<SlotLabel>
+    ensures { result ≡ replaced_label (module_in loaded.now) replaces }
+{
+    match replaces {
+        Some(slot) => slot_label(loaded, slot),
+        None => None,
     }
 }

@@ -1,4 +1,5 @@
-//! The state that the label storage areas of all modules stand for, as it is read and shown (UEFI 2.7, section 13.19).
+//! The state that the label storage areas of all modules stand for, as it is read, shown and
+//! swept (UEFI 2.7, section 13.19).
 #![tactic(auto)]
 
 mod flips;

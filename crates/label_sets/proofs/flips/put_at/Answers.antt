@@ -1,0 +1,77 @@
+use Rattle.std.proofs.Common.{get_or, map, set, sym, ap, subst, ◌∙◌}
+use Rattle.std.specs.List.{All}
+use Rattle.rig_trait.specs.Areas.{OthersKept}
+use Rattle.rig_trait.specs.Frames.{LeavesOnly}
+use Rattle.region_sets.specs.declared.modules.LoadedModule.{LoadedModule}
+use Rattle.region_sets.specs.Modules.{dimm_of, labels_in, module_in}
+use Rattle.region_changes.specs.Changes.{dimm_at}
+use Rattle.region_changes.specs.Flips.{StoodBeforePut}
+use Rattle.region_changes.specs.Rooms.{HasRoomFor}
+use Rattle.region_changes.specs.SlotLabels.{replaced_label}
+use Rattle.region_changes.proofs.ChangedModules.{dimm_at-same}
+use Rattle.label_sets.specs.Flips.{first_slot_in, with_put_at}
+use Rattle.label_sets.specs.Passes.{IsOneOf, LeftIn}
+use Rattle.label_sets.proofs.Freed.{at-seat, changed, seat-dimm, stands-after}
+use Rattle.label_sets.proofs.Put.{either-put, labels-put, none-replaced, stood-put}
+use Rattle.label_sets.proofs.flips.put_at.Goals as goal
+
+pub follow_put-requires-clause-put : goal.follow_put-requires-clause-put
+follow_put-requires-clause-put g c =
+    let ms = c.args.modules.now in
+    let x = c.index-modules-seat-2.result in
+    let q = c.requires in
+    subst (λ k. StoodBeforePut (set ms c.args.seat c.put_in.new.loaded) c.args.seat (record { uuid = c.args.label.now.uuid; slot = k }) c.replaced_label-lost.result c.args.regions.now) (sym c.in-Ok.ensures.slot)
+    (stood-put ms c.args.seat q.within q.once x c.put_in.new.loaded c.index-modules-seat-2.is c.put_in.ensures.dimm c.args.label.now c.args.replaces (q.put x) c.put_in.ensures.within c.put_in.ensures.was_free
+    c.in-Ok.ensures.put c.args.regions.now c.replaced_label-lost.result
+    (c.replaced_label-lost.ensures ∙ ap (λ (m : LoadedModule). replaced_label (module_in m) c.args.replaces) (at-seat ms c.args.seat q.within q.once x c.put_in.new.loaded c.index-modules-seat-2.is c.put_in.ensures.dimm c.index-modules-seat.result))
+    q.over)
+
+pub follow_put-requires-clause-room : goal.follow_put-requires-clause-room
+follow_put-requires-clause-room g c = λ none.
+    let ms = c.args.modules.now in
+    let x = c.index-modules-seat-2.result in
+    let q = c.requires in
+    subst (λ d. All (HasRoomFor d) c.args.regions.now)
+    (sym (dimm_at-same ms _ c.args.seat (changed ms c.args.seat q.within q.once x c.put_in.new.loaded c.index-modules-seat-2.is c.put_in.ensures.dimm)))
+    (q.room (none-replaced (module_in (get_or ms c.args.seat c.index-modules-seat.result)) c.args.replaces (q.put c.index-modules-seat.result).replaced (sym c.replaced_label-lost.ensures ∙ none)))
+
+pub returns-in-Ok-clause-labels : goal.returns-in-Ok-clause-labels
+returns-in-Ok-clause-labels g c = λ d.
+    let ms = c.args.modules.now in
+    let x = c.index-modules-seat-2.result in
+    let q = c.requires in
+    labels-put ms c.args.seat q.within q.once x c.put_in.new.loaded c.index-modules-seat-2.is c.put_in.ensures.dimm c.args.label.now c.args.replaces (q.put x) c.put_in.ensures.within c.put_in.ensures.was_free c.in-Ok.ensures.put
+    ∙ ap (λ (m : LoadedModule). with_put_at (dimm_at ms c.args.seat) (first_slot_in m) c.args.label.now c.args.replaces (labels_in ms))
+    (sym (at-seat ms c.args.seat q.within q.once x c.put_in.new.loaded c.index-modules-seat-2.is c.put_in.ensures.dimm d))
+
+pub returns-in-Ok-clause-stands : goal.returns-in-Ok-clause-stands
+returns-in-Ok-clause-stands g c = λ told all.
+    let ms = c.args.modules.now in
+    let x = c.index-modules-seat-2.result in
+    let q = c.requires in
+    let old = g.R.Shown.areas c.args.rig.now in
+    let now = g.R.Shown.areas c.put_in.new.rig in
+    let others : OthersKept (get_or ms c.args.seat x).dimm old now = c.put_in.ensures.writes_only.others told in
+    stands-after ms c.args.seat q.within q.once x c.put_in.new.loaded c.index-modules-seat-2.is c.put_in.ensures.dimm old now
+    (subst (λ d. OthersKept d old now) (sym (seat-dimm ms c.args.seat q.within q.once x c.put_in.new.loaded c.index-modules-seat-2.is c.put_in.ensures.dimm)) others) all
+    (c.in-Ok.ensures.stands told (all c.args.seat x q.within))
+
+pub returns-in-Ok-clause-any_moment : goal.returns-in-Ok-clause-any_moment
+returns-in-Ok-clause-any_moment g c = λ d told all.
+    let ms = c.args.modules.now in
+    let x = c.index-modules-seat-2.result in
+    let q = c.requires in
+    subst (λ (m : LoadedModule). LeavesOnly g.R.Shown c.args.rig.now c.put_in.new.rig (LeftIn (map dimm_of ms) (g.R.Shown.said c.args.rig.now) (IsOneOf (labels_in ms) (with_put_at (dimm_at ms c.args.seat) (first_slot_in m) c.args.label.now c.args.replaces (labels_in ms)))))
+    (sym (at-seat ms c.args.seat q.within q.once x c.put_in.new.loaded c.index-modules-seat-2.is c.put_in.ensures.dimm d))
+    (either-put ms c.args.seat q.within q.once x c.put_in.new.loaded c.index-modules-seat-2.is c.put_in.ensures.dimm c.args.label.now c.args.replaces (q.put x) c.put_in.ensures.within c.put_in.ensures.was_free
+    g.R.Shown c.args.rig.now c.put_in.new.rig all (c.in-Ok.ensures.any_moment told))
+
+pub returns-in-Err-clause-any_moment : goal.returns-in-Err-clause-any_moment
+returns-in-Err-clause-any_moment g c = λ d told all.
+    let ms = c.args.modules.now in
+    let x = c.index-modules-seat-2.result in
+    let q = c.requires in
+    subst (λ (m : LoadedModule). LeavesOnly g.R.Shown c.args.rig.now c.put_in.new.rig (LeftIn (map dimm_of ms) (g.R.Shown.said c.args.rig.now) (IsOneOf (labels_in ms) (with_put_at (dimm_at ms c.args.seat) (first_slot_in m) c.args.label.now c.args.replaces (labels_in ms)))))
+    (sym (at-seat ms c.args.seat q.within q.once x c.put_in.new.loaded c.index-modules-seat-2.is c.put_in.ensures.dimm d))
+    (either-put ms c.args.seat q.within q.once x c.put_in.new.loaded c.index-modules-seat-2.is c.put_in.ensures.dimm c.args.label.now c.args.replaces (q.put x) c.put_in.ensures.within c.put_in.ensures.was_free
+    g.R.Shown c.args.rig.now c.put_in.new.rig all (c.in-Err.ensures.any_moment told))
