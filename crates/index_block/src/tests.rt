@@ -1,6 +1,6 @@
 use super::*;
 use std::test::Fail;
-use test_areas::{block, put, put_checksum};
+use test_areas::{block, put_checksum};
 
 /// The sizes of an area and of its labels, and the size of an index block there and the number of slots.
 #[test]
@@ -120,24 +120,6 @@ fn blocks_read(rt: HostRuntime) -> Result<(), Fail> {
         read_block(&block(false, 3, 3), Place::Second, &g),
         BlockKind::Foreign
     );
-    Ok(())
-}
-
-/// A block in a window that goes on behind it, and one that tells 512 bytes.
-#[test]
-fn longer_windows(rt: HostRuntime) -> Result<(), Fail> {
-    let g = Geometry::of(1024, 256).ok_or("no geometry")?;
-    assert_eq!(rt; g.block, 256);
-    let mut window = [0xff; 1024];
-    put(&mut window, 0, &block(false, 3, 3));
-    assert_eq!(rt;
-        read_block(&window, Place::First, &g),
-        BlockKind::Usable { seq: 3 }
-    );
-    assert_eq!(rt; g.bitmap(&window), [3].as_slice());
-    window[33] = 2;
-    put(&mut window, 64, &0x3422_8047_d832_3af3_u64.to_le_bytes());
-    assert_eq!(rt; read_block(&window, Place::First, &g), BlockKind::Foreign);
     Ok(())
 }
 

@@ -1,15 +1,10 @@
 pub mod Loaded
-pub mod Standing
 pub mod Platforms
 pub mod Frees
 pub mod Rooms
 pub mod Viewed
 pub mod FreeRoom
-pub mod Turned
 pub mod Unwanted
 pub mod Swept
-pub mod Flipped
-pub mod Freed
 pub mod Sweeping
 pub mod SweptSets
-pub mod Put

@@ -7,7 +7,7 @@ use Rattle.index_block.proofs.FreeSlots.{free_count-more}
 use Rattle.label_codec.specs.declared.label.Label.{Label}
 use Rattle.module_labels.specs.Labels.{count, one}
 use Rattle.label_area.specs.Flips.{Standing, is_among}
-use Rattle.label_sets.specs.Flips.{with_free}
+use Rattle.module_flips.specs.Flips.{with_free}
 use Rattle.label_sets.specs.Sweeps.{slots_below}
 use Rattle.label_sets.proofs.Unwanted.{among-from}
 

@@ -35,12 +35,12 @@ use Rattle.region_changes.specs.Rooms.{KeepsRegion}
 use Rattle.region_changes.specs.SlotLabels.{slot_labels}
 use Rattle.region_changes.proofs.ChangedModules.{dimm-at, handles-same, labels-at, once-after}
 use Rattle.region_changes.proofs.FreeSpace.{extents-kept}
-use Rattle.label_sets.specs.Flips.{CanFree, HasLabelsInUse, IsReadyArea, IsFreedAt, IsOwn, standing_in, with_free, without_slots_at}
+use Rattle.module_flips.specs.Flips.{CanFree, HasLabelsInUse, IsReadyArea, IsFreedAt, IsOwn, standing_in, with_free, without_slots_at}
 use Rattle.label_sets.specs.Kept.{AllFree, HasFewMembers, IsFree}
 use Rattle.label_sets.specs.Room.{HasRoom, HasSlotsWithin}
 use Rattle.label_sets.specs.Sweeps.{IsSwept, IsSweptTo, is_unwanted, unwanted_slots}
-use Rattle.label_sets.specs.Passes.{IsOneOf, LeftIn}
-use Rattle.label_sets.proofs.Freed.{apart-at}
+use Rattle.module_flips.specs.Stops.{IsOneOf, LeftIn}
+use Rattle.module_flips.proofs.Freed.{apart-at}
 use Rattle.label_sets.proofs.Sweeping.{all-bounded, can-free, swept}
 use Rattle.label_sets.proofs.Unwanted.{among-true, dead-as-before, leaves-out, state-kept}
 

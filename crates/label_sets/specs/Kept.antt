@@ -10,7 +10,7 @@ use Rattle.region_sets.specs.Fates.{platform_of, region_in}
 use Rattle.region_sets.specs.Modules.{EachOnce, labels_in}
 use Rattle.region_sets.specs.Regions.{IsOver}
 use Rattle.label_sets.specs.declared.sets.Sets.TheInside.{Inside}
-use Rattle.label_sets.specs.Flips.{HasLabelsInUse, IsOwn}
+use Rattle.module_flips.specs.Flips.{HasLabelsInUse, IsOwn}
 use Rattle.label_sets.specs.Room.{HasRoom, HasSlotsWithin}
 use Rattle.label_sets.specs.Sets.{StoredSets}
 

@@ -1,5 +1,3 @@
-pub mod Flips
-pub mod Passes
 pub mod Sweeps
 pub mod Loads
 pub mod Codes

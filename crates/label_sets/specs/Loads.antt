@@ -29,22 +29,6 @@ area_by dimm (Err (fault.Foreign size)) = Ok (Foreign size)
 area_by dimm (Err fault.Failed) = Err (Failed dimm)
 area_by dimm (Err fault.Memory) = Err Memory
 
--- what is kept of a module's area is the area that is stored
-abbrev pub StoredAs : Areas → ℕ → ModuleArea → Type 0
-StoredAs areas dimm Missing = area_kind (get areas dimm) ≡ kind.Missing
-StoredAs areas dimm (WrongSize size) = (area_kind (get areas dimm) ≡ kind.WrongSize) × (size_in areas dimm ≡ Some size)
-StoredAs areas dimm (Uninit size) = (area_kind (get areas dimm) ≡ kind.Uninit) × (size_in areas dimm ≡ Some size)
-StoredAs areas dimm (Foreign size) = (area_kind (get areas dimm) ≡ kind.Foreign) × (size_in areas dimm ≡ Some size)
-StoredAs areas dimm (Ready area) = (area.dimm ≡ dimm) × IsShown area areas
-
-abbrev pub StandsIn : Areas → LoadedModule → Type 0
-StandsIn areas loaded = StoredAs areas loaded.dimm loaded.area
-
--- the labels in the areas of some modules. The areas of others are not looked at.
-abbrev pub stored_labels : List ℕ → Areas → Labels
-stored_labels modules areas handle =
-    if list_any (λ dimm. dimm == handle) modules then module_at areas handle else without_labels kind.Missing
-
 -- No call of the rig failed, or the last one did, and the fault names its module.
 abbrev pub HasCause : {R T : Type 0} → Ghosts R → R → R → Result T SetFault → Type 0
 HasCause m old new (Ok value) = FailsAt 0 m old new false

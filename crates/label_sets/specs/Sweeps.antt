@@ -20,7 +20,7 @@ use Rattle.region_sets.specs.Modules.{EachOnce, dimm_of, module_in, size_in}
 use Rattle.region_sets.specs.Modules as loaded
 use Rattle.region_sets.specs.Regions.{IsOver}
 use Rattle.region_changes.specs.Changes.{dimm_at}
-use Rattle.label_sets.specs.Flips.{HasLabelsInUse, IsOwn, is_used_in}
+use Rattle.module_flips.specs.Flips.{HasLabelsInUse, IsOwn, is_used_in}
 use Rattle.label_sets.specs.Kept.{AllFree, HasFewMembers}
 use Rattle.label_sets.specs.Room.{HasRoom, HasSlotsWithin}
 use Rattle.label_sets.specs.Sets.{StoredSets, labels_in, platform_in}

@@ -2,7 +2,6 @@
 //! swept (UEFI 2.7, section 13.19).
 #![tactic(auto)]
 
-mod flips;
 mod largest;
 mod load;
 mod lookups;
@@ -12,8 +11,8 @@ mod sets;
 mod sweep;
 mod views;
 
-pub use flips::AreaFailed;
 pub use load::SetFault;
+pub use module_flips::AreaFailed;
 pub use read::read_state;
 pub use sets::Sets;
 

@@ -4,8 +4,9 @@ ghost use Rattle.std.specs.Prelude.{◌≡◌, ◌+◌, ◌*◌, ◌≤◌, IfEr
 ghost use Rattle.std.specs.List.{All};
 ghost use Rattle.rig_trait.specs.Frames.{IsTold, Reads};
 ghost use Rattle.region_sets.specs.Modules.{dimm_of};
-ghost use Rattle.label_sets.specs.Flips.{HasLabelsInUse, IsOwn};
-ghost use Rattle.label_sets.specs.Loads.{HasCause, IsAt, IsAmong, StandsIn, area_by};
+ghost use Rattle.module_flips.specs.Flips.{HasLabelsInUse, IsOwn};
+ghost use Rattle.label_sets.specs.Loads.{HasCause, IsAt, IsAmong, area_by};
+ghost use Rattle.module_flips.specs.Stored.{StandsIn};
 ghost use Rattle.label_sets.specs.declared.load.SetFault.TheVariants.{Memory};
 
 use label_area::{Area, AreaFault};

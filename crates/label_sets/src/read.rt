@@ -7,9 +7,10 @@ ghost use Rattle.rig_trait.specs.Frames.{IsTold, Reads};
 ghost use Rattle.region_sets.specs.Fates.{region_in};
 ghost use Rattle.region_sets.specs.Modules.{dimm_of};
 ghost use Rattle.region_sets.specs.Regions.{IsOver};
-ghost use Rattle.label_sets.specs.Flips.{IsSizedIn};
+ghost use Rattle.module_flips.specs.Flips.{IsSizedIn};
 ghost use Rattle.label_sets.specs.Kept.{AllFree, HasFewMembers};
-ghost use Rattle.label_sets.specs.Loads.{HasCause, IsAmong, StandsIn, stored_labels};
+ghost use Rattle.label_sets.specs.Loads.{HasCause, IsAmong};
+ghost use Rattle.module_flips.specs.Stored.{StandsIn, stored_labels};
 ghost use Rattle.label_sets.specs.Sets.{labels_in};
 
 use crate::load::{SetFault, load_modules};

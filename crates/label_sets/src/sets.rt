@@ -7,7 +7,7 @@ ghost use Rattle.label_table.specs.Belonging.{IsDisjoint};
 ghost use Rattle.region_sets.specs.Fates.{platform_of, region_in};
 ghost use Rattle.region_sets.specs.Modules.{EachOnce};
 ghost use Rattle.region_sets.specs.Regions.{IsOver};
-ghost use Rattle.label_sets.specs.Flips.{HasLabelsInUse, IsOwn};
+ghost use Rattle.module_flips.specs.Flips.{HasLabelsInUse, IsOwn};
 ghost use Rattle.label_sets.specs.Kept.{AllFree, HasFewMembers};
 ghost use Rattle.label_sets.specs.Room.{HasSlotsWithin};
 ghost use Rattle.label_sets.specs.Sets.{index_of};

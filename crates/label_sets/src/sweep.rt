@@ -15,14 +15,14 @@ ghost use Rattle.region_sets.specs.Modules.{EachOnce, dimm_of, labels_in, module
 ghost use Rattle.region_sets.specs.Regions.{IsOver};
 ghost use Rattle.region_changes.specs.Changes.{dimm_at};
 ghost use Rattle.region_changes.specs.SlotLabels.{slot_labels};
-ghost use Rattle.label_sets.specs.Flips.{HasLabelsInUse, IsOwn, IsReadyArea, IsSizedIn, is_used_in};
-ghost use Rattle.label_sets.specs.Loads.{StandsIn};
-ghost use Rattle.label_sets.specs.Passes.{LeftIn};
+ghost use Rattle.module_flips.specs.Flips.{HasLabelsInUse, IsOwn, IsReadyArea, IsSizedIn, is_used_in};
+ghost use Rattle.module_flips.specs.Stored.{StandsIn};
+ghost use Rattle.module_flips.specs.Stops.{LeftIn};
 ghost use Rattle.label_sets.specs.Room.{HasSlotsWithin};
 ghost use Rattle.label_sets.specs.Sweeps.{IsSweptTo, is_unwanted, unwanted_slots};
 
-use crate::flips::{AreaFailed, free_at};
 use crate::sets::Sets;
+use module_flips::{AreaFailed, free_at};
 use region_changes::{SlotLabel, slot_label};
 use region_sets::{LoadedModule, ModuleArea, RegionLabels, is_dead};
 use rig_trait::Rig;
@@ -34,8 +34,8 @@ impl Sets {
     ghost use Rattle.label_sets.specs.Sweeps.{ChangesOnly, IsSweptAt};
 
     /// Frees the junk and the dead labels of a module whose area is Ready, by one flip, or by none where there are
-    /// none. It takes no memory. A stop at any moment leaves areas that stand for the same state, and so does a
-    /// failure.
+    /// none. It takes no memory. A stop at any moment leaves areas that stand for the same state. `Err` where the rig failed: what
+    /// is kept is as before then.
     pub fn sweep<R: Rig>(&mut self, rig: &mut R, dimm: u32) -> Result<(), AreaFailed>
         requires ready { IsTrue (is_ready (sets.labels_in self.old dimm).kind) }
         requires sized { IsTold R.Shown rig.old → All (IsSizedIn (R.areas rig.old)) self.old.modules }

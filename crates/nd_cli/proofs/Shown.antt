@@ -7,7 +7,8 @@ use Rattle.namespace_core.specs.declared.lists.Query.{Query}
 use Rattle.namespace_core.specs.Lists.{IsShown}
 use Rattle.label_sets.specs.declared.load.SetFault.{SetFault}
 use Rattle.label_sets.specs.declared.load.SetFault.TheVariants as set
-use Rattle.label_sets.specs.Loads.{HasCause, IsAmong, stored_labels}
+use Rattle.label_sets.specs.Loads.{HasCause, IsAmong}
+use Rattle.module_flips.specs.Stored.{stored_labels}
 use Rattle.label_sets.specs.Sets.{StoredSets}
 use Rattle.region_map.specs.declared.platform.Platform.{Platform}
 use Rattle.view_types.specs.declared.reply.Reply as replies

@@ -8,7 +8,7 @@ use Rattle.label_area.specs.Inits.{initialised, slots_of}
 use Rattle.label_area.specs.Modules.{area_kind, module_at}
 use Rattle.module_labels.specs.declared.kind.AreaKind.{AreaKind}
 use Rattle.module_labels.specs.declared.kind.AreaKind.TheVariants as kinds
-use Rattle.label_sets.specs.Loads.{stored_labels}
+use Rattle.module_flips.specs.Stored.{stored_labels}
 use Rattle.namespace_core.specs.declared.lists.Query.{Query}
 use Rattle.namespace_core.specs.Lists.{IsShown}
 use Rattle.region_map.specs.declared.platform.Platform.{Platform}

@@ -3,10 +3,12 @@ use Rattle.std.proofs.Common.{◌≡◌, ℕ, false, List, [], ◌∷◌, ◌++�
 use Rattle.std.specs.Fmt.{decimal}
 use Rattle.std.specs.List.{flat_map, starts_with}
 use Rattle.view_types.specs.declared.reply.Reply.{Reply}
-use Rattle.view_types.specs.declared.reply.Reply.TheVariants.{Initialised, Namespaces, Regions, Free, HeldList}
+use Rattle.view_types.specs.declared.reply.Reply.TheVariants.{Initialised, Created, Destroyed, Renamed, Released}
+use Rattle.view_types.specs.declared.reply.Reply.TheVariants.{Namespaces, Regions, Free, HeldList}
 use Rattle.view_types.specs.declared.reply.Reply.TheVariants.{Module, Spa, Runs, Refused}
 use Rattle.report_json.specs.Lines.{free_line, held_line, namespace_line, region_line, run_line}
-use Rattle.report_json.specs.Numbers.{address_text, handle_text}
+use Rattle.label_codec.specs.Names.{printed_name}
+use Rattle.report_json.specs.Numbers.{address_text, handle_text, uuid_text}
 use Rattle.report_json.specs.Refusals.{refusal_text}
 use Rattle.report_json.specs.Texts.{IsEnded, reply_text}
 
@@ -17,6 +19,17 @@ behind before front = (before ++ front, sym (append_assoc before front (codes "\
 pub ended : (reply : Reply) → IsEnded (reply_text reply)
 ended (Initialised dimm slots) =
     (codes "ok initialised dimm=" ++ handle_text dimm ++ codes " slots=" ++ decimal slots, refl)
+ended (Created uuid region offset len size spare) =
+    (codes "ok created uuid=" ++ uuid_text uuid
+        ++ codes " region=" ++ decimal region
+        ++ codes " offset=" ++ decimal offset
+        ++ codes " length=" ++ decimal len
+        ++ codes " size=" ++ decimal size
+        ++ codes " spare=" ++ decimal spare,
+        refl)
+ended (Destroyed uuid) = (codes "ok destroyed uuid=" ++ uuid_text uuid, refl)
+ended (Renamed uuid name) = (codes "ok renamed uuid=" ++ uuid_text uuid ++ codes " name=" ++ printed_name name, refl)
+ended (Released count) = (codes "ok released=" ++ decimal count, refl)
 ended (Namespaces listed) =
     behind (flat_map namespace_line listed) (codes "ok namespaces=" ++ decimal (length listed))
 ended (Regions regions) = behind (flat_map region_line regions) (codes "ok regions=" ++ decimal (length regions))
@@ -32,6 +45,10 @@ ended (Refused refusal) = (codes "refused " ++ refusal_text refusal, refl)
 
 pub no_error : (reply : Reply) → starts_with nat_eq (reply_text reply) (codes "error ") ≡ false
 no_error (Initialised dimm slots) = refl
+no_error (Created uuid region offset len size spare) = refl
+no_error (Destroyed uuid) = refl
+no_error (Renamed uuid name) = refl
+no_error (Released count) = refl
 no_error (Namespaces []) = refl
 no_error (Namespaces (listed ∷ more)) = refl
 no_error (Regions []) = refl

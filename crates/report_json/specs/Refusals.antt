@@ -50,6 +50,16 @@ refusal_text (refusals.UnknownRegion region) = codes "unknown-region region=" ++
 refusal_text (refusals.UnknownDimm dimm) = codes "unknown-dimm dimm=" ++ handle_text dimm
 refusal_text (refusals.Unusable rule) = codes "unusable rule=" ++ rule_word rule
 refusal_text (refusals.NotReady status) = codes "not-ready " ++ status_text status
+refusal_text (refusals.Unhealed dimm) = codes "unhealed dimm=" ++ handle_text dimm
+refusal_text refusals.UnknownNamespace = codes "unknown-namespace"
+refusal_text (refusals.Ambiguous count) = codes "ambiguous count=" ++ decimal count
+refusal_text (refusals.ReadOnly uuid) = codes "read-only uuid=" ++ uuid_text uuid
+refusal_text (refusals.BadSize unit) = codes "bad-size unit=" ++ decimal unit
+refusal_text (refusals.NameInUse uuid) = codes "name-in-use uuid=" ++ uuid_text uuid
+refusal_text (refusals.UuidInUse dimm) = codes "uuid-in-use dimm=" ++ handle_text dimm
+refusal_text (refusals.NoSpace largest) = codes "no-space largest=" ++ decimal largest
+refusal_text (refusals.NoSlots dimm spare) = codes "no-slots dimm=" ++ handle_text dimm ++ codes " spare=" ++ decimal spare
+refusal_text refusals.NotHeld = codes "not-held"
 refusal_text (refusals.AlreadyReady dimm) = codes "already-ready dimm=" ++ handle_text dimm
 refusal_text (refusals.NoTranslation fault) = codes "no-translation " ++ translate_fault_text fault
 refusal_text refusals.Outside = codes "outside"

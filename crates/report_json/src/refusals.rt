@@ -42,6 +42,19 @@ fn refusal_text(refusal: Refusal) -> ShortText
             text.push_str("not-ready ");
             text.push_text(&status_text(status));
         }
+        Refusal::Unhealed { dimm } => text.push_handle("unhealed dimm=", dimm),
+        Refusal::UnknownNamespace => text.push_str("unknown-namespace"),
+        Refusal::Ambiguous { count } => text.push_decimal("ambiguous count=", u64::from(count)),
+        Refusal::ReadOnly { uuid } => text.push_uuid("read-only uuid=", &uuid),
+        Refusal::BadSize { unit } => text.push_decimal("bad-size unit=", unit),
+        Refusal::NameInUse { uuid } => text.push_uuid("name-in-use uuid=", &uuid),
+        Refusal::UuidInUse { dimm } => text.push_handle("uuid-in-use dimm=", dimm),
+        Refusal::NoSpace { largest } => text.push_decimal("no-space largest=", largest),
+        Refusal::NoSlots { dimm, spare } => {
+            text.push_handle("no-slots dimm=", dimm);
+            text.push_decimal(" spare=", u64::from(spare));
+        }
+        Refusal::NotHeld => text.push_str("not-held"),
         Refusal::AlreadyReady { dimm } => text.push_handle("already-ready dimm=", dimm),
         Refusal::NoTranslation { fault } => {
             text.push_str("no-translation ");

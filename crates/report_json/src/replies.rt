@@ -4,6 +4,7 @@ ghost use Rattle.std.specs.Prelude.{◌≡◌, ◌≤◌, ◌++◌, true, codes,
 ghost use Rattle.std.specs.Fmt.{decimal};
 ghost use Rattle.std.specs.List.{flat_map};
 ghost use Rattle.report_json.specs.Texts.{free_end, held_end, initialised_line, module_line, spa_line};
+ghost use Rattle.report_json.specs.Texts.{created_line, destroyed_line, released_line, renamed_line};
 ghost use Rattle.report_json.specs.Texts.{is_one_line, reply_text};
 
 use crate::buffer::ShortText;
@@ -38,8 +39,14 @@ pub fn reply_text(alloc: Global, reply: &Reply) -> Result<Vec<u8>, AllocError>
             let last = counted("ok runs=", runs.len());
             lines(alloc, runs.as_slice(), &last)
         }
-        Reply::Initialised { .. } | Reply::Module { .. } | Reply::Spa { .. } | Reply::Refused(_) =>
-            Vec::from_slice(alloc, one_line(reply).as_bytes()),
+        Reply::Initialised { .. }
+        | Reply::Created { .. }
+        | Reply::Destroyed { .. }
+        | Reply::Renamed { .. }
+        | Reply::Released { .. }
+        | Reply::Module { .. }
+        | Reply::Spa { .. }
+        | Reply::Refused(_) => Vec::from_slice(alloc, one_line(reply).as_bytes()),
     }
 }
 
@@ -62,16 +69,36 @@ fn one_line(reply: &Reply) -> ShortText
     requires { is_one_line reply.now ≡ true }
     ensures { result ≡ reply_text reply.now }
 {
+    line_of(reply).unwrap()
+}
+
+/// The line of a reply that is no list, and `None` exactly where it is one. It takes no memory.
+pub fn line_of(reply: &Reply) -> Option<ShortText>
+    ensures { result ≡ (if is_one_line reply.now then Some (reply_text reply.now) else None) }
+{
     match reply {
-        Reply::Initialised { dimm, slots } => initialised_line(*dimm, *slots),
-        Reply::Module { dimm, dpa } => module_line(*dimm, *dpa),
-        Reply::Spa { spa } => spa_line(*spa),
-        Reply::Refused(refusal) => refusal_line(*refusal),
+        Reply::Initialised { dimm, slots } => Some(initialised_line(*dimm, *slots)),
+        Reply::Created {
+            uuid,
+            region,
+            offset,
+            length,
+            size,
+            spare,
+        } => Some(created_line(
+            uuid, *region, *offset, *length, *size, *spare,
+        )),
+        Reply::Destroyed { uuid } => Some(destroyed_line(uuid)),
+        Reply::Renamed { uuid, name } => Some(renamed_line(uuid, name)),
+        Reply::Released { labels } => Some(released_line(*labels)),
+        Reply::Module { dimm, dpa } => Some(module_line(*dimm, *dpa)),
+        Reply::Spa { spa } => Some(spa_line(*spa)),
+        Reply::Refused(refusal) => Some(refusal_line(*refusal)),
         Reply::Namespaces(_)
         | Reply::Regions(_)
         | Reply::Free { .. }
         | Reply::HeldList { .. }
-        | Reply::Runs(_) => unreachable!(),
+        | Reply::Runs(_) => None,
     }
 }
 
@@ -82,6 +109,55 @@ pub fn initialised_line(dimm: u32, slots: u32) -> ShortText
     let mut text = ShortText::new();
     text.push_handle("ok initialised dimm=", dimm);
     text.push_decimal(" slots=", u64::from(slots));
+    text.push_str("\n");
+    text
+}
+
+fn created_line(
+    uuid: &[u8; 16],
+    region: u16,
+    offset: u64,
+    length: u64,
+    size: u64,
+    spare: u32,
+) -> ShortText
+    ensures { result ≡ created_line uuid.now region offset length size spare }
+{
+    let mut text = ShortText::new();
+    text.push_uuid("ok created uuid=", uuid);
+    text.push_decimal(" region=", u64::from(region));
+    text.push_decimal(" offset=", offset);
+    text.push_decimal(" length=", length);
+    text.push_decimal(" size=", size);
+    text.push_decimal(" spare=", u64::from(spare));
+    text.push_str("\n");
+    text
+}
+
+fn destroyed_line(uuid: &[u8; 16]) -> ShortText
+    ensures { result ≡ destroyed_line uuid.now }
+{
+    let mut text = ShortText::new();
+    text.push_uuid("ok destroyed uuid=", uuid);
+    text.push_str("\n");
+    text
+}
+
+fn renamed_line(uuid: &[u8; 16], name: &[u8; 64]) -> ShortText
+    ensures { result ≡ renamed_line uuid.now name.now }
+{
+    let mut text = ShortText::new();
+    text.push_uuid("ok renamed uuid=", uuid);
+    text.push_name(" name=", name);
+    text.push_str("\n");
+    text
+}
+
+fn released_line(count: u32) -> ShortText
+    ensures { result ≡ released_line count }
+{
+    let mut text = ShortText::new();
+    text.push_decimal("ok released=", u64::from(count));
     text.push_str("\n");
     text
 }
@@ -146,21 +222,4 @@ fn held_end(count: usize, spare: u32) -> ShortText
     text.push_decimal(" spare=", u64::from(spare));
     text.push_str("\n");
     text
-}
-
-/// The line of a reply that is no list, and `None` exactly where it is one. It takes no memory.
-pub fn line_of(reply: &Reply) -> Option<ShortText>
-    ensures { result ≡ (if is_one_line reply.now then Some (reply_text reply.now) else None) }
-{
-    match reply {
-        Reply::Initialised { dimm, slots } => Some(initialised_line(*dimm, *slots)),
-        Reply::Module { dimm, dpa } => Some(module_line(*dimm, *dpa)),
-        Reply::Spa { spa } => Some(spa_line(*spa)),
-        Reply::Refused(refusal) => Some(refusal_line(*refusal)),
-        Reply::Namespaces(_)
-        | Reply::Regions(_)
-        | Reply::Free { .. }
-        | Reply::HeldList { .. }
-        | Reply::Runs(_) => None,
-    }
 }

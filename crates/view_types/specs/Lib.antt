@@ -1,3 +1,4 @@
 pub mod Guids
 pub mod Intervals
 pub mod Keys
+pub mod Modes

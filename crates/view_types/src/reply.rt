@@ -12,6 +12,22 @@ use crate::views::RegionView;
 pub enum Reply {
     /// The area of the module was initialised, and has this number of slots.
     Initialised { dimm: u32, slots: u32 },
+    /// A namespace was made. Offset and length are in bytes of each member's part, the size in bytes of all of them.
+    /// `spare` is the least number of spare slots that a member has left.
+    Created {
+        uuid: [u8; 16],
+        region: u16,
+        offset: u64,
+        length: u64,
+        size: u64,
+        spare: u32,
+    },
+    /// The namespace was destroyed.
+    Destroyed { uuid: [u8; 16] },
+    /// The namespace has this name now, with zeros behind it.
+    Renamed { uuid: [u8; 16], name: [u8; 64] },
+    /// So many held labels of the module were given up.
+    Released { labels: u32 },
     /// Namespaces, by the index of their region, then by offset and uuid.
     Namespaces(List<Listed>),
     /// Regions by index, with neither namespaces nor free extents.

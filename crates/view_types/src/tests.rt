@@ -28,6 +28,7 @@ fn guids(rt: HostRuntime) {
     ];
     assert_eq!(rt; persistent_memory(), bytes);
     assert_eq!(rt; PERSISTENT_MEMORY, bytes);
+    assert_eq!(rt; Mode::Raw.abstraction(), [0; 16]);
 }
 
 #[test]

@@ -5,8 +5,8 @@ use Rattle.std.proofs.lemmas.List.Elements.{All-push}
 use Rattle.rig_trait.specs.Areas.{Areas}
 use Rattle.rig_trait.proofs.Frames.{reads_on}
 use Rattle.region_sets.specs.Modules.{dimm_of}
-use Rattle.label_sets.specs.Flips.{HasLabelsInUse, IsOwn}
-use Rattle.label_sets.specs.Loads.{StandsIn}
+use Rattle.module_flips.specs.Flips.{HasLabelsInUse, IsOwn}
+use Rattle.module_flips.specs.Stored.{StandsIn}
 use Rattle.label_sets.proofs.load.load_modules.Goals as goal
 
 pub loop-dimm-preserved : goal.loop-dimm-preserved

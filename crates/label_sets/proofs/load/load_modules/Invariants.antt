@@ -3,8 +3,8 @@ use Rattle.std.specs.Prelude.{map}
 use Rattle.std.specs.List.{All}
 use Rattle.rig_trait.specs.Frames.{IsTold, Reads, FailsAt}
 use Rattle.region_sets.specs.Modules.{dimm_of}
-use Rattle.label_sets.specs.Flips.{HasLabelsInUse, IsOwn}
-use Rattle.label_sets.specs.Loads.{StandsIn}
+use Rattle.module_flips.specs.Flips.{HasLabelsInUse, IsOwn}
+use Rattle.module_flips.specs.Stored.{StandsIn}
 use Rattle.label_sets.proofs.load.load_modules.Given as goal
 
 abbrev pub invariant-loop-dimm : goal.invariant-loop-dimm

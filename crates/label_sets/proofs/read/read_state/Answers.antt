@@ -2,12 +2,12 @@ use Rattle.std.proofs.Common.{ap, get_or, subst, sym, ◌∙◌}
 use Rattle.std.specs.List.{All}
 use Rattle.std.specs.List.Sorted.{IsStrictlyIncreasing}
 use Rattle.rig_trait.specs.Areas.{Areas}
-use Rattle.label_sets.specs.Flips.{IsSizedIn}
-use Rattle.label_sets.specs.Loads.{StandsIn, stored_labels}
+use Rattle.module_flips.specs.Flips.{IsSizedIn}
+use Rattle.module_flips.specs.Stored.{StandsIn, stored_labels}
 use Rattle.label_sets.specs.Sets.{StoredSets, labels_in}
-use Rattle.label_sets.proofs.Loaded.{stands-sized}
+use Rattle.module_flips.proofs.Stored.{stands-sized}
 use Rattle.label_sets.proofs.Platforms.{each-once, regions-disjoint}
-use Rattle.label_sets.proofs.Standing.{stands}
+use Rattle.module_flips.proofs.Standing.{stands}
 use Rattle.label_sets.proofs.read.read_state.Goals as goal
 
 pub returns-clause-stands : goal.returns-clause-stands

@@ -8,12 +8,12 @@ use Rattle.region_changes.specs.Changes.{dimm_at}
 use Rattle.region_changes.specs.SlotLabels.{slot_labels}
 use Rattle.region_changes.specs.Rooms.{position_count, room_after_free}
 use Rattle.label_table.specs.Tables.{state}
-use Rattle.label_sets.specs.Flips.{IsFreedAt, without_slots_at}
+use Rattle.module_flips.specs.Flips.{IsFreedAt, without_slots_at}
 use Rattle.label_sets.specs.Sweeps.{is_unwanted, unwanted_slots}
-use Rattle.label_sets.proofs.Standing.{stands}
+use Rattle.module_flips.proofs.Standing.{stands}
 use Rattle.label_sets.proofs.Sweeping.{few-below}
 use Rattle.label_sets.proofs.SweptSets.{can-free-at, keeps-state, swept-already, swept-to}
-use Rattle.label_sets.proofs.Turned.{no_flip}
+use Rattle.module_flips.proofs.Turned.{no_flip}
 use Rattle.label_sets.proofs.sweep.sweep_at.Goals as goal
 
 on_ok : {T E A B C D F : Type 0} (r : Result T E) → (A → B → C → D → F) → OnOk r A → OnOk r B → OnOk r C → OnOk r D → OnOk r F

@@ -9,9 +9,9 @@ use Rattle.region_sets.specs.declared.modules.LoadedModule.{LoadedModule}
 use Rattle.region_sets.specs.Fates.{platform_of, with_regions}
 use Rattle.region_sets.specs.Modules.{EachOnce}
 use Rattle.region_sets.specs.Regions.{IsOver}
-use Rattle.label_sets.specs.Flips.{HasLabelsInUse, IsOwn}
+use Rattle.module_flips.specs.Flips.{HasLabelsInUse, IsOwn}
 use Rattle.label_sets.specs.Kept.{AllFree, HasFewMembers}
-use Rattle.label_sets.specs.Loads.{StandsIn}
+use Rattle.module_flips.specs.Stored.{StandsIn}
 use Rattle.label_sets.specs.Room.{HasRoom, HasSlotsWithin}
 use Rattle.label_sets.specs.Sets.{StoredSets}
 use Rattle.label_sets.specs.Sweeps.{ChangesOnly, IsSweptTo}

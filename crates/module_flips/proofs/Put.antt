@@ -26,12 +26,12 @@ use Rattle.region_changes.specs.Flips.{LosesLabels, ReplacesLabel, StoodBeforePu
 use Rattle.region_changes.specs.SlotLabels.{AreApart, replaced_label, slot_labels}
 use Rattle.region_changes.proofs.AreaFlips.{loses-slots}
 use Rattle.region_changes.proofs.ChangedModules.{labels-after}
-use Rattle.label_sets.specs.Flips.{CanPut, first_slot_in, standing_in, with_put, with_put_at}
-use Rattle.label_sets.specs.Loads.{StandsIn}
-use Rattle.label_sets.specs.Passes.{IsOneOf, LeftIn}
-use Rattle.label_sets.proofs.Freed.{at-seat, changed, in_use-bounded, new-at, own-labels, seat-dimm}
-use Rattle.label_sets.proofs.Standing.{stands}
-use Rattle.label_sets.proofs.Turned.{one_flip}
+use Rattle.module_flips.specs.Flips.{CanPut, first_slot_in, standing_in, with_put, with_put_at}
+use Rattle.module_flips.specs.Stored.{StandsIn}
+use Rattle.module_flips.specs.Stops.{IsOneOf, LeftIn}
+use Rattle.module_flips.proofs.Freed.{at-seat, changed, in_use-bounded, new-at, own-labels, seat-dimm}
+use Rattle.module_flips.proofs.Standing.{stands}
+use Rattle.module_flips.proofs.Turned.{one_flip}
 
 -- what a stop leaves of a put into the area of a module
 pub put-left : {R : Type 0} (m : Ghosts R) (old new : R) (dimm : ℕ) (stored : ModuleArea) (area : LoadedArea) (label : Label) (replaces : Option ℕ) → stored ≡ Ready area → area.dimm ≡ dimm

@@ -9,13 +9,13 @@ ghost use Rattle.region_sets.specs.declared.modules.LoadedModule.{LoadedModule};
 ghost use Rattle.region_sets.specs.Modules.{EachOnce, dimm_of, labels_in, module_in, size_in};
 ghost use Rattle.region_sets.specs.Regions.{IsOver};
 ghost use Rattle.region_changes.specs.Changes.{dimm_at};
-ghost use Rattle.region_changes.specs.Rooms.{HasRoomFor, KeepsRegion, room_after_free};
+ghost use Rattle.region_changes.specs.Rooms.{HasRoomFor, KeepsRegion, room_after_free, room_after_put};
 ghost use Rattle.region_changes.specs.SlotLabels.{replaced_label};
-ghost use Rattle.label_sets.specs.Flips.{CanFree, IsFreedAt, IsOwn, IsReadyArea, IsSizedIn, is_used_in, standing_in};
-ghost use Rattle.label_sets.specs.Flips.{CanPut, HasFreeIn, IsPutAt, IsReplaced, first_slot_in, with_free, with_put};
-ghost use Rattle.label_sets.specs.Flips.{with_put_at, without_slots_at};
-ghost use Rattle.label_sets.specs.Loads.{StandsIn};
-ghost use Rattle.label_sets.specs.Passes.{IsOneOf, LeftIn};
+ghost use Rattle.module_flips.specs.Flips.{CanFree, IsFreedAt, IsOwn, IsReadyArea, IsSizedIn, is_used_in, standing_in};
+ghost use Rattle.module_flips.specs.Flips.{CanPut, HasFreeIn, IsPutAt, IsReplaced, first_slot_in, with_free, with_put};
+ghost use Rattle.module_flips.specs.Flips.{with_put_at, without_slots_at};
+ghost use Rattle.module_flips.specs.Stored.{StandsIn};
+ghost use Rattle.module_flips.specs.Stops.{IsOneOf, LeftIn};
 
 use label_codec::Label;
 use region_changes::{SlotLabel, follow_free, follow_put, slot_label};
@@ -29,7 +29,7 @@ pub struct AreaFailed {
 }
 
 /// Frees slots in use of a module whose area is Ready.
-pub(crate) fn free_in<R: Rig>(
+fn free_in<R: Rig>(
     rig: &mut R,
     loaded: &mut LoadedModule,
     slots: &[u32],
@@ -68,7 +68,7 @@ pub(crate) fn free_in<R: Rig>(
 
 /// Frees slots in use of the module at a seat, and the indexes of the regions follow. `lost` are the labels that are
 /// live in these slots. After a failure modules and regions are as before.
-pub(crate) fn free_at<R: Rig>(
+pub fn free_at<R: Rig>(
     rig: &mut R,
     modules: &mut [LoadedModule],
     regions: &mut [RegionLabels],
@@ -111,7 +111,7 @@ pub(crate) fn free_at<R: Rig>(
 
 /// Puts a label into the least free slot of a module whose area is Ready, and frees the slot of a label that it
 /// replaces. It answers the slot.
-pub(crate) fn put_in<R: Rig>(
+fn put_in<R: Rig>(
     rig: &mut R,
     loaded: &mut LoadedModule,
     label: &Label,
@@ -155,7 +155,7 @@ pub(crate) fn put_in<R: Rig>(
 
 /// Puts a label into the module at a seat, in place of the one in a slot or of none, and the indexes of the regions
 /// follow. After a failure modules and regions are as before.
-pub(crate) fn put_at<R: Rig>(
+pub fn put_at<R: Rig>(
     rig: &mut R,
     modules: &mut [LoadedModule],
     regions: &mut [RegionLabels],
@@ -173,7 +173,13 @@ pub(crate) fn put_at<R: Rig>(
     ensures labels { (d : LoadedModule) → OnOk result (labels_in modules.new
         ≡ with_put_at (dimm_at modules.old seat) (first_slot_in (slice_index_or modules.old seat d)) label.now replaces
         (labels_in modules.old)) }
+    ensures slot_within { (d : LoadedModule) → first_slot_in (slice_index_or modules.old seat d)
+        < (module_in (slice_index_or modules.old seat d)).slots }
+    ensures slot_free { (d : LoadedModule)
+        → (module_in (slice_index_or modules.old seat d)).at (first_slot_in (slice_index_or modules.old seat d)) ≡ None }
     ensures over { OnOk result (All (IsOver modules.new) regions.new) }
+    ensures regions { (d : LoadedModule) → OnOk result (AllZip (KeepsRegion (room_after_put (dimm_at modules.old seat)
+        (replaced_label (module_in (slice_index_or modules.old seat d)) replaces))) regions.old regions.new) }
     ensures kept { OnErr result (modules.new ≡ modules.old) }
     ensures kept_regions { OnErr result (regions.new ≡ regions.old) }
     ensures stands { IsTold R.Shown rig.old → All (StandsIn (R.areas rig.old)) modules.old

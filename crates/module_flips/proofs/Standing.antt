@@ -8,8 +8,8 @@ use Rattle.module_labels.specs.declared.kind.AreaKind.TheVariants as kind
 use Rattle.label_area.specs.Modules.{module_at}
 use Rattle.region_sets.specs.declared.modules.LoadedModule.{LoadedModule}
 use Rattle.region_sets.specs.Modules.{dimm_of, is_of, labels_in, module_or_missing, without_labels}
-use Rattle.label_sets.specs.Loads.{StandsIn, stored_labels}
-use Rattle.label_sets.proofs.Loaded.{stands-module}
+use Rattle.module_flips.specs.Stored.{StandsIn, stored_labels}
+use Rattle.module_flips.proofs.Stored.{stands-module}
 
 stands-at : (xs : List LoadedModule) (areas : Areas) → All (StandsIn areas) xs → (handle : ℕ) → labels_in xs handle ≡ stored_labels (map dimm_of xs) areas handle
 stands-at [] areas all handle = refl

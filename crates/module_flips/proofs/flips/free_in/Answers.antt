@@ -1,9 +1,9 @@
 use Rattle.std.proofs.Common.{sym, ap, subst, ◌∙◌}
 use Rattle.region_sets.specs.declared.modules.ModuleArea.{ModuleArea}
-use Rattle.label_sets.specs.Flips.{IsAreaOf, standing_in, with_free}
-use Rattle.label_sets.specs.Loads.{StoredAs}
-use Rattle.label_sets.proofs.Flipped.{free-left}
-use Rattle.label_sets.proofs.flips.free_in.Goals as goal
+use Rattle.module_flips.specs.Flips.{IsAreaOf, standing_in, with_free}
+use Rattle.module_flips.specs.Stored.{StoredAs}
+use Rattle.module_flips.proofs.Flipped.{free-left}
+use Rattle.module_flips.proofs.flips.free_in.Goals as goal
 
 pub returns-in-Ok-clause-freed : goal.returns-in-Ok-clause-freed
 returns-in-Ok-clause-freed g c =

@@ -26,11 +26,11 @@ use Rattle.region_changes.specs.Flips.{LosesLabels, StoodBeforeFree}
 use Rattle.region_changes.specs.SlotLabels.{slot_labels}
 use Rattle.region_changes.proofs.AreaFlips.{IsBoundedModule, loses-slots}
 use Rattle.region_changes.proofs.ChangedModules.{changed-set, dimm-at, labels-after, labels-at}
-use Rattle.label_sets.specs.Flips.{CanFree, HasLabelsInUse, is_used_by, standing_in, with_free, without_slots_at}
-use Rattle.label_sets.specs.Loads.{StandsIn, StoredAs}
-use Rattle.label_sets.specs.Passes.{IsOneOf, LeftIn}
-use Rattle.label_sets.proofs.Standing.{stands}
-use Rattle.label_sets.proofs.Turned.{one_flip}
+use Rattle.module_flips.specs.Flips.{CanFree, HasLabelsInUse, is_used_by, standing_in, with_free, without_slots_at}
+use Rattle.module_flips.specs.Stored.{StandsIn, StoredAs}
+use Rattle.module_flips.specs.Stops.{IsOneOf, LeftIn}
+use Rattle.module_flips.proofs.Standing.{stands}
+use Rattle.module_flips.proofs.Turned.{one_flip}
 
 apart : false ≡ true → ⊥
 apart e = cc

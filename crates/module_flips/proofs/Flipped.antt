@@ -6,7 +6,7 @@ use Rattle.label_area.specs.Flips.{LeftByFlip, after_free}
 use Rattle.label_area.specs.LoadedAreas.{LoadedArea}
 use Rattle.region_sets.specs.declared.modules.ModuleArea.{ModuleArea}
 use Rattle.region_sets.specs.declared.modules.ModuleArea.TheVariants.{Ready}
-use Rattle.label_sets.specs.Flips.{standing_in, with_free}
+use Rattle.module_flips.specs.Flips.{standing_in, with_free}
 
 -- what a stop leaves
 pub free-left : {R : Type 0} (m : Ghosts R) (old new : R) (dimm : ℕ) (stored : ModuleArea) (area : LoadedArea) (slots : List ℕ) → stored ≡ Ready area → area.dimm ≡ dimm

@@ -15,8 +15,8 @@ use Rattle.label_area.specs.Fair.{IsFair}
 use Rattle.label_area.specs.Flips.{LeftByFlip, Standing}
 use Rattle.label_area.specs.Modules.{module_at, module_of}
 use Rattle.region_sets.specs.Modules.{without_labels}
-use Rattle.label_sets.specs.Loads.{stored_labels}
-use Rattle.label_sets.specs.Passes.{LeftIn}
+use Rattle.module_flips.specs.Stored.{stored_labels}
+use Rattle.module_flips.specs.Stops.{LeftIn}
 
 module _ (modules : List ℕ) (areas : Areas) (said : List ℕ) (dimm : ℕ) (after : Standing) (known : list_any (λ h. h == dimm) modules ≡ true) (c : CrashRecord) (left : LeftByFlip areas said dimm after c) where
   same_there : module_at c.areas dimm ≡ module_at areas dimm → (m : ℕ) → stored_labels modules c.areas m ≡ stored_labels modules areas m

@@ -3,9 +3,9 @@ use Rattle.std.specs.List.{AllZip}
 use Rattle.rig_trait.specs.Areas.{OthersKept}
 use Rattle.region_changes.specs.Rooms.{KeepsRegion, room_after_free}
 use Rattle.region_changes.proofs.ChangedModules.{dimm_at-same}
-use Rattle.label_sets.specs.Loads.{StandsIn}
-use Rattle.label_sets.proofs.Freed.{changed, either-left, labels-freed, seat-dimm, stands-after, stood}
-use Rattle.label_sets.proofs.flips.free_at.Goals as goal
+use Rattle.module_flips.specs.Stored.{StandsIn}
+use Rattle.module_flips.proofs.Freed.{changed, either-left, labels-freed, seat-dimm, stands-after, stood}
+use Rattle.module_flips.proofs.flips.free_at.Goals as goal
 
 pub follow_free-requires : goal.follow_free-requires
 follow_free-requires g c =

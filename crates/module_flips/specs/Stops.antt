@@ -3,7 +3,7 @@ use Rattle.std.specs.Prelude.{◌≡◌, ◌⊎◌, ℕ, List}
 use Rattle.rig_trait.specs.Records.{CrashRecord}
 use Rattle.label_area.specs.Fair.{IsFair}
 use Rattle.module_labels.specs.Labels.{Labels}
-use Rattle.label_sets.specs.Loads.{stored_labels}
+use Rattle.module_flips.specs.Stored.{stored_labels}
 
 -- The output is as it was, and in a fair record the labels in the areas of these modules fit.
 pub record LeftIn (modules said : List ℕ) (fits : Labels → Type 0) (c : CrashRecord) : Type 0 where

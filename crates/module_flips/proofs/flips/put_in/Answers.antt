@@ -1,9 +1,9 @@
 use Rattle.std.proofs.Common.{sym, ap, subst, ◌∙◌}
 use Rattle.region_sets.specs.declared.modules.ModuleArea.{ModuleArea}
-use Rattle.label_sets.specs.Flips.{IsAreaOf, first_slot_in, standing_in, with_put}
-use Rattle.label_sets.specs.Loads.{StoredAs}
-use Rattle.label_sets.proofs.Put.{put-left}
-use Rattle.label_sets.proofs.flips.put_in.Goals as goal
+use Rattle.module_flips.specs.Flips.{IsAreaOf, first_slot_in, standing_in, with_put}
+use Rattle.module_flips.specs.Stored.{StoredAs}
+use Rattle.module_flips.proofs.Put.{put-left}
+use Rattle.module_flips.proofs.flips.put_in.Goals as goal
 
 pub returns-in-Ok-clause-put : goal.returns-in-Ok-clause-put
 returns-in-Ok-clause-put g c =

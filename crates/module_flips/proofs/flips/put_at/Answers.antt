@@ -1,19 +1,19 @@
-use Rattle.std.proofs.Common.{get_or, map, set, sym, ap, subst, ◌∙◌}
-use Rattle.std.specs.List.{All}
+use Rattle.std.proofs.Common.{◌≡◌, ◌<◌, None, get_or, map, set, sym, ap, subst, ◌∙◌}
+use Rattle.std.specs.List.{All, AllZip}
 use Rattle.rig_trait.specs.Areas.{OthersKept}
 use Rattle.rig_trait.specs.Frames.{LeavesOnly}
 use Rattle.region_sets.specs.declared.modules.LoadedModule.{LoadedModule}
 use Rattle.region_sets.specs.Modules.{dimm_of, labels_in, module_in}
 use Rattle.region_changes.specs.Changes.{dimm_at}
 use Rattle.region_changes.specs.Flips.{StoodBeforePut}
-use Rattle.region_changes.specs.Rooms.{HasRoomFor}
+use Rattle.region_changes.specs.Rooms.{HasRoomFor, KeepsRegion, room_after_put}
 use Rattle.region_changes.specs.SlotLabels.{replaced_label}
 use Rattle.region_changes.proofs.ChangedModules.{dimm_at-same}
-use Rattle.label_sets.specs.Flips.{first_slot_in, with_put_at}
-use Rattle.label_sets.specs.Passes.{IsOneOf, LeftIn}
-use Rattle.label_sets.proofs.Freed.{at-seat, changed, seat-dimm, stands-after}
-use Rattle.label_sets.proofs.Put.{either-put, labels-put, none-replaced, stood-put}
-use Rattle.label_sets.proofs.flips.put_at.Goals as goal
+use Rattle.module_flips.specs.Flips.{first_slot_in, with_put_at}
+use Rattle.module_flips.specs.Stops.{IsOneOf, LeftIn}
+use Rattle.module_flips.proofs.Freed.{at-seat, changed, seat-dimm, stands-after}
+use Rattle.module_flips.proofs.Put.{either-put, labels-put, none-replaced, stood-put}
+use Rattle.module_flips.proofs.flips.put_at.Goals as goal
 
 pub follow_put-requires-clause-put : goal.follow_put-requires-clause-put
 follow_put-requires-clause-put g c =
@@ -75,3 +75,32 @@ returns-in-Err-clause-any_moment g c = λ d told all.
     (sym (at-seat ms c.args.seat q.within q.once x c.put_in.new.loaded c.index-modules-seat-2.is c.put_in.ensures.dimm d))
     (either-put ms c.args.seat q.within q.once x c.put_in.new.loaded c.index-modules-seat-2.is c.put_in.ensures.dimm c.args.label.now c.args.replaces (q.put x) c.put_in.ensures.within c.put_in.ensures.was_free
     g.R.Shown c.args.rig.now c.put_in.new.rig all (c.in-Err.ensures.any_moment told))
+
+pub returns-in-Ok-clause-regions : goal.returns-in-Ok-clause-regions
+returns-in-Ok-clause-regions g c = λ d.
+    let ms = c.args.modules.now in
+    let x = c.index-modules-seat-2.result in
+    let q = c.requires in
+    subst (λ h. AllZip (KeepsRegion (room_after_put h (replaced_label (module_in (get_or ms c.args.seat d)) c.args.replaces))) c.args.regions.now c.follow_put.new.regions)
+    (dimm_at-same ms _ c.args.seat (changed ms c.args.seat q.within q.once x c.put_in.new.loaded c.index-modules-seat-2.is c.put_in.ensures.dimm))
+    (subst (λ lost. AllZip (KeepsRegion (room_after_put (dimm_at (set ms c.args.seat c.put_in.new.loaded) c.args.seat) lost)) c.args.regions.now c.follow_put.new.regions)
+    (c.replaced_label-lost.ensures ∙ ap (λ (m : LoadedModule). replaced_label (module_in m) c.args.replaces)
+    (at-seat ms c.args.seat q.within q.once x c.put_in.new.loaded c.index-modules-seat-2.is c.put_in.ensures.dimm c.index-modules-seat.result
+    ∙ sym (at-seat ms c.args.seat q.within q.once x c.put_in.new.loaded c.index-modules-seat-2.is c.put_in.ensures.dimm d)))
+    c.follow_put.ensures.kept)
+
+pub returns-in-Ok-clause-slot_within : goal.returns-in-Ok-clause-slot_within
+returns-in-Ok-clause-slot_within g c = λ d. subst (λ (m : LoadedModule). first_slot_in m < (module_in m).slots)
+    (sym (at-seat c.args.modules.now c.args.seat c.requires.within c.requires.once c.index-modules-seat-2.result c.put_in.new.loaded c.index-modules-seat-2.is c.put_in.ensures.dimm d)) c.put_in.ensures.within
+
+pub returns-in-Ok-clause-slot_free : goal.returns-in-Ok-clause-slot_free
+returns-in-Ok-clause-slot_free g c = λ d. subst (λ (m : LoadedModule). (module_in m).at (first_slot_in m) ≡ None)
+    (sym (at-seat c.args.modules.now c.args.seat c.requires.within c.requires.once c.index-modules-seat-2.result c.put_in.new.loaded c.index-modules-seat-2.is c.put_in.ensures.dimm d)) c.put_in.ensures.was_free
+
+pub returns-in-Err-clause-slot_within : goal.returns-in-Err-clause-slot_within
+returns-in-Err-clause-slot_within g c = λ d. subst (λ (m : LoadedModule). first_slot_in m < (module_in m).slots)
+    (sym (at-seat c.args.modules.now c.args.seat c.requires.within c.requires.once c.index-modules-seat-2.result c.put_in.new.loaded c.index-modules-seat-2.is c.put_in.ensures.dimm d)) c.put_in.ensures.within
+
+pub returns-in-Err-clause-slot_free : goal.returns-in-Err-clause-slot_free
+returns-in-Err-clause-slot_free g c = λ d. subst (λ (m : LoadedModule). (module_in m).at (first_slot_in m) ≡ None)
+    (sym (at-seat c.args.modules.now c.args.seat c.requires.within c.requires.once c.index-modules-seat-2.result c.put_in.new.loaded c.index-modules-seat-2.is c.put_in.ensures.dimm d)) c.put_in.ensures.was_free

@@ -1,0 +1,6 @@
+pub mod Stored
+pub mod Standing
+pub mod Turned
+pub mod Flipped
+pub mod Freed
+pub mod Put
