@@ -1,3 +1,4 @@
 pub mod Flips
 pub mod Stored
 pub mod Stops
+pub mod Together

@@ -1,10 +1,10 @@
 //! One flip of one module.
 
-ghost use Rattle.std.specs.Prelude.{◌≡◌, ◌<◌, IfErr, IfOk, IsTrue, None, OnErr, OnOk, length, map, slice_index_or};
+ghost use Rattle.std.specs.Prelude.{◌≡◌, ◌+◌, ◌<◌, IfErr, IfOk, IsTrue, None, OnErr, OnOk, length, map, slice_index_or};
 ghost use Rattle.std.specs.List.{All, AllZip};
 ghost use Rattle.std.specs.Result.{is_err};
 ghost use Rattle.rig_trait.specs.Frames.{FailsAt, IsTold, LeavesOnly, WritesTo};
-ghost use Rattle.label_area.specs.Flips.{LeftByFlip};
+ghost use Rattle.label_area.specs.Flips.{LeftByFlip, replaced};
 ghost use Rattle.region_sets.specs.declared.modules.LoadedModule.{LoadedModule};
 ghost use Rattle.region_sets.specs.Modules.{EachOnce, dimm_of, labels_in, module_in, size_in};
 ghost use Rattle.region_sets.specs.Regions.{IsOver};
@@ -12,10 +12,11 @@ ghost use Rattle.region_changes.specs.Changes.{dimm_at};
 ghost use Rattle.region_changes.specs.Rooms.{HasRoomFor, KeepsRegion, room_after_free, room_after_put};
 ghost use Rattle.region_changes.specs.SlotLabels.{replaced_label};
 ghost use Rattle.module_flips.specs.Flips.{CanFree, IsFreedAt, IsOwn, IsReadyArea, IsSizedIn, is_used_in, standing_in};
-ghost use Rattle.module_flips.specs.Flips.{CanPut, HasFreeIn, IsPutAt, IsReplaced, first_slot_in, with_free, with_put};
+ghost use Rattle.module_flips.specs.Flips.{HasFreeIn, IsPutAt, IsReplaced, first_slot_in, with_free, with_put};
 ghost use Rattle.module_flips.specs.Flips.{with_put_at, without_slots_at};
 ghost use Rattle.module_flips.specs.Stored.{StandsIn};
 ghost use Rattle.module_flips.specs.Stops.{IsOneOf, LeftIn};
+ghost use Rattle.module_flips.specs.Together.{IsTogether, StaysTogether, free_slots};
 
 use label_codec::Label;
 use region_changes::{SlotLabel, follow_free, follow_put, slot_label};
@@ -164,9 +165,9 @@ pub fn put_at<R: Rig>(
     replaces: Option<u32>,
 ) -> Result<(), AreaFailed>
     requires within { seat < length modules.old }
-    requires put { (d : LoadedModule) → CanPut (slice_index_or modules.old seat d) replaces }
-    requires once { EachOnce modules.old }
-    requires over { All (IsOver modules.old) regions.old }
+    requires together { IsTogether modules.old regions.old }
+    requires free { (d : LoadedModule) → HasFreeIn (slice_index_or modules.old seat d).area }
+    requires replaces { (d : LoadedModule) → IsReplaced (slice_index_or modules.old seat d) replaces }
     requires room { replaces ≡ None → All (HasRoomFor (dimm_at modules.old seat)) regions.old }
     requires sized { IsTold R.Shown rig.old → All (IsSizedIn (R.areas rig.old)) modules.old }
     ensures put { OnOk result (IsPutAt modules.old modules.new seat label.now replaces) }
@@ -177,7 +178,9 @@ pub fn put_at<R: Rig>(
         < (module_in (slice_index_or modules.old seat d)).slots }
     ensures slot_free { (d : LoadedModule)
         → (module_in (slice_index_or modules.old seat d)).at (first_slot_in (slice_index_or modules.old seat d)) ≡ None }
-    ensures over { OnOk result (All (IsOver modules.new) regions.new) }
+    ensures together { OnOk result (StaysTogether modules.old regions.old modules.new regions.new) }
+    ensures free_slots { (d : LoadedModule) → OnOk result (free_slots (slice_index_or modules.new seat d) + 1
+        ≡ free_slots (slice_index_or modules.old seat d) + length (replaced replaces)) }
     ensures regions { (d : LoadedModule) → OnOk result (AllZip (KeepsRegion (room_after_put (dimm_at modules.old seat)
         (replaced_label (module_in (slice_index_or modules.old seat d)) replaces))) regions.old regions.new) }
     ensures kept { OnErr result (modules.new ≡ modules.old) }
