@@ -33,8 +33,8 @@ use Rattle.region_changes.proofs.RoomSums.{all-first, all-others, all-reserved}
 use Rattle.module_flips.specs.Flips.{HasFreeIn, IsPutAt, IsSizedIn, first_slot_in, with_put_at}
 use Rattle.module_flips.specs.Together.{IsTogether, StaysTogether, free_slots, free_slots_of, slots_in}
 use Rattle.module_flips.proofs.Freed.{apart-at}
-use Rattle.namespace_staging.specs.Staging.{CanStage, IsStaged, new_space, staged_label}
-use Rattle.namespace_staging.specs.Turns.{CanStageAt, IsStagedTo, StagedBelow}
+use Rattle.namespace_staging.specs.Staged.{IsStagedTo, new_space, staged_label}
+use Rattle.namespace_staging.specs.Staging.{CanStage, CanStageAt, IsStaged, StagedBelow}
 use Rattle.namespace_staging.proofs.Bounded.{all-bounded}
 use Rattle.namespace_staging.proofs.Members.{HasPlace, at-member, handles-differ, member-in, place-of}
 use Rattle.namespace_staging.proofs.Steps.{none-staged, step}

@@ -22,8 +22,7 @@ use Rattle.label_table.proofs.Listed.{IsLeading, leading}
 use Rattle.label_table.proofs.ListTests.{both, eq_same, le_from, list_any-never, lt_from, never, uuid_same}
 use Rattle.label_table.proofs.Staging.{whole-aligned}
 use Rattle.label_table.proofs.WholeUuids.{IsLed, whole-led}
-use Rattle.namespace_staging.specs.Staging.{new_space, staged_label}
-use Rattle.namespace_staging.specs.Turns.{IsStagedAt}
+use Rattle.namespace_staging.specs.Staged.{IsStagedAt, new_space, staged_label}
 use Rattle.namespace_staging.proofs.Members.{HasPlace, at-member, member-in, place-of}
 
 -- a module with none of the uuid has no label of it to count

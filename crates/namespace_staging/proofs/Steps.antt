@@ -5,7 +5,7 @@ use Rattle.std.specs.List.{All, Contains}
 use Rattle.std.proofs.lemmas.Bool.{cases_eq, cases_lt}
 use Rattle.view_types.specs.declared.namespaces.Namespace.{Namespace}
 use Rattle.label_codec.specs.declared.label.Label.{Label}
-use Rattle.module_labels.specs.Flips.{with_label, without_slots}
+use Rattle.module_labels.specs.Flips.{with_label, with_module, without_slots}
 use Rattle.module_labels.specs.Labels.{IsBounded, Labels, Module, has, label_if, of_uuid, one}
 use Rattle.module_labels.proofs.Counting.{count-change, one-some}
 use Rattle.region_map.specs.declared.platform.Member.{Member}
@@ -26,9 +26,7 @@ use Rattle.label_table.proofs.OneFlip.{confined-by, put-other, with_label-bounde
 use Rattle.label_table.proofs.Staging.{staged-gains, staged-kept}
 use Rattle.region_changes.specs.Spaces.{GainsNamespace}
 use Rattle.region_changes.proofs.FreeSpace.{completed}
-use Rattle.module_flips.specs.Flips.{with_put_at}
-use Rattle.namespace_staging.specs.Staging.{IsBeforeOrWith, new_space, staged_label}
-use Rattle.namespace_staging.specs.Turns.{HasGained, IsStagedAt, IsStagedTo}
+use Rattle.namespace_staging.specs.Staged.{HasGained, IsBeforeOrWith, IsStagedAt, IsStagedTo, new_space, staged_label}
 use Rattle.namespace_staging.proofs.Members.{handles-differ, member-in}
 use Rattle.namespace_staging.proofs.StagedLabels.{all-mine, all-stale, at-most-one, label-at, none-behind, none-counted, not-whole, stands}
 
@@ -69,7 +67,7 @@ module _ (P : Platform) (disjoint : IsDisjoint P) (r : Region) (in_P : Contains 
   area = with_label slot new between
 
   abbrev after : Labels
-  after = with_put_at here slot (staged_label r s i) None L
+  after = with_module here area L
 
   at-here : after here ≡ area
   at-here = with_module-here here area L
@@ -150,7 +148,7 @@ module _ (P : Platform) (disjoint : IsDisjoint P) (r : Region) (in_P : Contains 
       }
 
   -- The labels up to the position are staged then.
-  pub step : IsStagedTo P r s start (i + 1) (with_put_at (member_at r i).handle slot (staged_label r s i) None L)
+  pub step : IsStagedTo P r s start (i + 1) after
   step = record {
     bounded = bounded;
     ready = ready;

@@ -1,2 +1,2 @@
+pub mod Staged
 pub mod Staging
-pub mod Turns

@@ -17,8 +17,8 @@ ghost use Rattle.module_flips.specs.Flips.{IsSizedIn};
 ghost use Rattle.module_flips.specs.Stored.{StandsIn};
 ghost use Rattle.module_flips.specs.Stops.{HasAreaCause, LeftIn, WritesAmong};
 ghost use Rattle.module_flips.specs.Together.{StaysTogether};
-ghost use Rattle.namespace_staging.specs.Staging.{CanStage, IsBeforeOrWith, IsStaged, new_space, staged_label};
-ghost use Rattle.namespace_staging.specs.Turns.{CanStageAt, StagedBelow};
+ghost use Rattle.namespace_staging.specs.Staged.{IsBeforeOrWith, new_space, staged_label};
+ghost use Rattle.namespace_staging.specs.Staging.{CanStage, CanStageAt, IsStaged, StagedBelow};
 
 use label_codec::{Label, UPDATING};
 use module_flips::{AreaFailed, put_at};

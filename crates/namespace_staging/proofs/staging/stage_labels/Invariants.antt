@@ -7,8 +7,8 @@ use Rattle.region_sets.specs.Modules.{dimm_of, labels_in}
 use Rattle.region_sets.specs.Regions.{handles}
 use Rattle.module_flips.specs.Stored.{StandsIn}
 use Rattle.module_flips.specs.Stops.{LeftIn, WritesAmong}
-use Rattle.namespace_staging.specs.Staging.{IsBeforeOrWith, new_space}
-use Rattle.namespace_staging.specs.Turns.{StagedBelow}
+use Rattle.namespace_staging.specs.Staged.{IsBeforeOrWith, new_space}
+use Rattle.namespace_staging.specs.Staging.{StagedBelow}
 use Rattle.namespace_staging.proofs.staging.stage_labels.Given as goal
 
 abbrev pub invariant-loop-position : goal.invariant-loop-position
