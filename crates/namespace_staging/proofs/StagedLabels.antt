@@ -39,10 +39,12 @@ module _ (r : Region) (s : Namespace) (sizes : All (λ (m : Member). m.size ≡ 
   pub staged-belongs : (k slot : ℕ) → k < length r.members → belongs r (member_at r k).handle (label-at k slot) ≡ true
   staged-belongs k slot lt =
       let size : (member_at r k).size ≡ part_size r = at-member r (λ m. m.size ≡ part_size r) sizes k lt in
+      let low : (member_at r k).dpa_base ≤ (member_at r k).dpa_base + s.offset = omega arith in
+      let high : (member_at r k).dpa_base + s.offset + s.length ≤ (member_at r k).dpa_base + (member_at r k).size = omega (arith, size, fits) in
       and_from _ _ (lt_from k (length r.members) lt)
       (and_from _ _ (and_from _ _ (eq_same _ _ refl) (and_from _ _ (eq_same r.cookie r.cookie refl) (eq_same (length r.members) (length r.members) refl)))
       (and_from _ _ (and_from _ _ (uuid_same persistent_memory) (lt_from 0 s.length long))
-      (and_from _ _ (le_from _ _ (omega arith)) (le_from _ _ (omega (arith, size, fits))))))
+      (and_from _ _ (le_from (member_at r k).dpa_base ((member_at r k).dpa_base + s.offset) low) (le_from ((member_at r k).dpa_base + s.offset + s.length) ((member_at r k).dpa_base + (member_at r k).size) high))))
 
   pub staged-offset : (k slot : ℕ) → offset_in r (label-at k slot) ≡ s.offset
   staged-offset k slot = omega arith
