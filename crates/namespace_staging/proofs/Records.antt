@@ -15,6 +15,7 @@ use Rattle.region_sets.proofs.Seated.{length-handles}
 use Rattle.region_changes.specs.Followed.{handle_at}
 use Rattle.module_flips.specs.Stops.{FailedAmong, IsOneOf, LeftIn, WritesAmong}
 use Rattle.module_flips.specs.declared.flips.AreaFailed.{AreaFailed}
+use Rattle.module_flips.proofs.Turned.{turned}
 
 apart : {A : Type 0} → true ≡ false → A
 apart e = absurd cc
@@ -65,3 +66,8 @@ module _ {R : Type 0} {m : Ghosts R} where
       | inr e ↦ subst fits (sym e) fits_after
     ];
   })
+
+  -- what a stop within several flips leaves, and within one more
+  pub one_turn_more : {old mid new : R} (modules same : List ℕ) (fits : Labels → Type 0) → same ≡ modules → m.said mid ≡ m.said old → LeavesOnly m old mid (LeftIn modules (m.said old) fits) → LeavesOnly m mid new (LeftIn same (m.said mid) fits)
+      → LeavesOnly m old new (LeftIn modules (m.said old) fits)
+  one_turn_more {old} {mid} {new} modules same fits is said first turn = turned modules fits first said (subst (λ hs. LeavesOnly m mid new (LeftIn hs (m.said mid) fits)) is turn)
