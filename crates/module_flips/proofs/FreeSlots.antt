@@ -22,11 +22,12 @@ apart e = absurd cc
 -- the first that passes is found, or none passes
 first-or-none : (p : ℕ → Bool) (a n : ℕ) → (p (unwrap_or (find p (range_with_len a n)) 0) ≡ true) ⊎ ((k : ℕ) → a ≤ k → k < a + n → p k ≡ false)
 first-or-none p a zero = inr (λ k from below. absurd (omega (arith, from, below)))
-first-or-none p a (suc n) = by (p a) refl
+first-or-none p a (suc n) = by (first-or-none p (a + 1) n) (p a) refl
   where
-    by : (b : Bool) → p a ≡ b → (p (unwrap_or (cond (p a) (Some a) (find p (range_with_len (a + 1) n))) 0) ≡ true) ⊎ ((k : ℕ) → a ≤ k → k < a + suc n → p k ≡ false)
-    by true e = inl (ap (λ b. p (unwrap_or (cond b (Some a) (find p (range_with_len (a + 1) n))) 0)) e ∙ e)
-    by false e = elim (first-or-none p (a + 1) n) [
+    by : (p (unwrap_or (find p (range_with_len (a + 1) n)) 0) ≡ true) ⊎ ((k : ℕ) → a + 1 ≤ k → k < a + 1 + n → p k ≡ false) → (b : Bool) → p a ≡ b
+        → (p (unwrap_or (cond (p a) (Some a) (find p (range_with_len (a + 1) n))) 0) ≡ true) ⊎ ((k : ℕ) → a ≤ k → k < a + suc n → p k ≡ false)
+    by rest true e = inl (ap (λ b. p (unwrap_or (cond b (Some a) (find p (range_with_len (a + 1) n))) 0)) e ∙ e)
+    by rest false e = elim rest [
       | inl here ↦ inl (ap (λ b. p (unwrap_or (cond b (Some a) (find p (range_with_len (a + 1) n))) 0)) e ∙ here)
       | inr none ↦ inr (λ k from below. elim (cases_eq k a) [
         | inl same ↦ ap p same ∙ e
@@ -43,7 +44,7 @@ first-free area has = elim (first-or-none (is_free_in area.free) 0 area.geometry
 ]
 
 -- how many slots below one are in use
-used_count : (ℕ → Bool) → ℕ → ℕ
+abbrev pub used_count : (ℕ → Bool) → ℕ → ℕ
 used_count used zero = 0
 used_count used (suc n) = used_count used n + cond {A = ℕ} (used n) 1 0
 

@@ -34,9 +34,11 @@ module _ {A : Type 0} (f : LoadedModule → A) (before after : List LoadedModule
     | inr differ ↦ ap f (changed.others k d differ)
   ]
 
-  pub same-map : (d : LoadedModule) → map f after ≡ map f before
-  same-map d = ext_get_or (map f after) (map f before) (f d) (length-map after f ∙ changed.each ∙ sym (length-map before f))
-      (λ k lt. get_or-map f after k d ∙ same-at k d ∙ sym (get_or-map f before k d))
+  pub same-map : (d : LoadedModule) (e : A) → map f after ≡ map f before
+  same-map d e = ext_get_or e (map f after) (map f before) (length-map after f ∙ changed.each ∙ sym (length-map before f)) (λ k lt.
+      let after_lt : k < length after = subst (λ n. k < n) (length-map after f) lt in
+      let before_lt : k < length before = subst (λ n. k < n) changed.each after_lt in
+      get_or-map f after k d e after_lt ∙ same-at k d ∙ sym (get_or-map f before k d e before_lt))
 
 -- a fact of each module stays, where it does of the one at a seat
 stays-at : (P : LoadedModule → Type 0) (before after : List LoadedModule) (seat : ℕ) → IsChangedAt before after seat → All P before → ((d : LoadedModule) → P (get_or before seat d) → P (get_or after seat d)) → All P after
@@ -64,8 +66,8 @@ pub put-together : (modules : List LoadedModule) (regions : List RegionLabels) (
     → IsTogether modules regions → IsPutAt modules now seat label replaces → map region_in regions_now ≡ map region_in regions → All (IsOver now) regions_now → StaysTogether modules regions now regions_now
 put-together modules regions now regions_now seat label replaces d together put same over = record {
   dimms = handles-same modules now seat put.changed;
-  sizes = same-map size_in modules now seat put.changed put.size d;
-  slots = same-map slots_in modules now seat put.changed (λ e. ap (λ (s : Standing). s.labels.slots) (put.standing e)) d;
+  sizes = same-map size_in modules now seat put.changed put.size d None;
+  slots = same-map slots_in modules now seat put.changed (λ e. ap (λ (s : Standing). s.labels.slots) (put.standing e)) d 0;
   same_regions = same;
   together = record {
     once = once-after modules now seat put.changed together.once;

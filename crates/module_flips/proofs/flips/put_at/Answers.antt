@@ -23,8 +23,8 @@ use Rattle.module_flips.proofs.Together.{is-put-at, put-together, same-regions}
 use Rattle.module_flips.proofs.flips.put_at.Goals as goal
 
 -- a label can be put there
-can : {ms : List LoadedModule} {rs : List RegionLabels} {seat : ℕ} {x : LoadedModule} {replaces : Option ℕ} → IsTogether ms rs → seat < length ms → HasFreeIn (get_or ms seat x).area → IsReplaced (get_or ms seat x) replaces → CanPut (get_or ms seat x) replaces
-can {ms} {rs} {seat} {x} {replaces} together within free there = record { free = free; own = together.own seat x within; in_use = together.in_use seat x within; replaced = there }
+can : {ms : List LoadedModule} {rs : List RegionLabels} {seat : ℕ} (x : LoadedModule) (replaces : Option ℕ) → IsTogether ms rs → seat < length ms → HasFreeIn (get_or ms seat x).area → IsReplaced (get_or ms seat x) replaces → CanPut (get_or ms seat x) replaces
+can {ms} {rs} {seat} x replaces together within free there = record { free = free; own = together.own seat x within; in_use = together.in_use seat x within; replaced = there }
 
 pub follow_put-requires-clause-put : goal.follow_put-requires-clause-put
 follow_put-requires-clause-put g c =
@@ -32,7 +32,7 @@ follow_put-requires-clause-put g c =
     let x = c.index-modules-seat-2.result in
     let q = c.requires in
     subst (λ k. StoodBeforePut (set ms c.args.seat c.put_in.new.loaded) c.args.seat (record { uuid = c.args.label.now.uuid; slot = k }) c.replaced_label-lost.result c.args.regions.now) (sym c.in-Ok.ensures.slot)
-    (stood-put ms c.args.seat q.within q.together.once x c.put_in.new.loaded c.index-modules-seat-2.is c.put_in.ensures.dimm c.args.label.now c.args.replaces (can c.requires.together c.requires.within (q.free x) (q.replaces x)) c.put_in.ensures.within c.put_in.ensures.was_free
+    (stood-put ms c.args.seat q.within q.together.once x c.put_in.new.loaded c.index-modules-seat-2.is c.put_in.ensures.dimm c.args.label.now c.args.replaces (can x c.args.replaces c.requires.together c.requires.within (q.free x) (q.replaces x)) c.put_in.ensures.within c.put_in.ensures.was_free
     c.in-Ok.ensures.put c.args.regions.now c.replaced_label-lost.result
     (c.replaced_label-lost.ensures ∙ ap (λ (m : LoadedModule). replaced_label (module_in m) c.args.replaces) (at-seat ms c.args.seat q.within q.together.once x c.put_in.new.loaded c.index-modules-seat-2.is c.put_in.ensures.dimm c.index-modules-seat.result))
     q.together.over)
@@ -51,7 +51,7 @@ returns-in-Ok-clause-labels g c = λ d.
     let ms = c.args.modules.now in
     let x = c.index-modules-seat-2.result in
     let q = c.requires in
-    labels-put ms c.args.seat q.within q.together.once x c.put_in.new.loaded c.index-modules-seat-2.is c.put_in.ensures.dimm c.args.label.now c.args.replaces (can c.requires.together c.requires.within (q.free x) (q.replaces x)) c.put_in.ensures.within c.put_in.ensures.was_free c.in-Ok.ensures.put
+    labels-put ms c.args.seat q.within q.together.once x c.put_in.new.loaded c.index-modules-seat-2.is c.put_in.ensures.dimm c.args.label.now c.args.replaces (can x c.args.replaces c.requires.together c.requires.within (q.free x) (q.replaces x)) c.put_in.ensures.within c.put_in.ensures.was_free c.in-Ok.ensures.put
     ∙ ap (λ (m : LoadedModule). with_put_at (dimm_at ms c.args.seat) (first_slot_in m) c.args.label.now c.args.replaces (labels_in ms))
     (sym (at-seat ms c.args.seat q.within q.together.once x c.put_in.new.loaded c.index-modules-seat-2.is c.put_in.ensures.dimm d))
 
@@ -74,7 +74,7 @@ returns-in-Ok-clause-any_moment g c = λ d told all.
     let q = c.requires in
     subst (λ (m : LoadedModule). LeavesOnly g.R.Shown c.args.rig.now c.put_in.new.rig (LeftIn (map dimm_of ms) (g.R.Shown.said c.args.rig.now) (IsOneOf (labels_in ms) (with_put_at (dimm_at ms c.args.seat) (first_slot_in m) c.args.label.now c.args.replaces (labels_in ms)))))
     (sym (at-seat ms c.args.seat q.within q.together.once x c.put_in.new.loaded c.index-modules-seat-2.is c.put_in.ensures.dimm d))
-    (either-put ms c.args.seat q.within q.together.once x c.put_in.new.loaded c.index-modules-seat-2.is c.put_in.ensures.dimm c.args.label.now c.args.replaces (can c.requires.together c.requires.within (q.free x) (q.replaces x)) c.put_in.ensures.within c.put_in.ensures.was_free
+    (either-put ms c.args.seat q.within q.together.once x c.put_in.new.loaded c.index-modules-seat-2.is c.put_in.ensures.dimm c.args.label.now c.args.replaces (can x c.args.replaces c.requires.together c.requires.within (q.free x) (q.replaces x)) c.put_in.ensures.within c.put_in.ensures.was_free
     g.R.Shown c.args.rig.now c.put_in.new.rig all (c.in-Ok.ensures.any_moment told))
 
 pub returns-in-Err-clause-any_moment : goal.returns-in-Err-clause-any_moment
@@ -84,7 +84,7 @@ returns-in-Err-clause-any_moment g c = λ d told all.
     let q = c.requires in
     subst (λ (m : LoadedModule). LeavesOnly g.R.Shown c.args.rig.now c.put_in.new.rig (LeftIn (map dimm_of ms) (g.R.Shown.said c.args.rig.now) (IsOneOf (labels_in ms) (with_put_at (dimm_at ms c.args.seat) (first_slot_in m) c.args.label.now c.args.replaces (labels_in ms)))))
     (sym (at-seat ms c.args.seat q.within q.together.once x c.put_in.new.loaded c.index-modules-seat-2.is c.put_in.ensures.dimm d))
-    (either-put ms c.args.seat q.within q.together.once x c.put_in.new.loaded c.index-modules-seat-2.is c.put_in.ensures.dimm c.args.label.now c.args.replaces (can c.requires.together c.requires.within (q.free x) (q.replaces x)) c.put_in.ensures.within c.put_in.ensures.was_free
+    (either-put ms c.args.seat q.within q.together.once x c.put_in.new.loaded c.index-modules-seat-2.is c.put_in.ensures.dimm c.args.label.now c.args.replaces (can x c.args.replaces c.requires.together c.requires.within (q.free x) (q.replaces x)) c.put_in.ensures.within c.put_in.ensures.was_free
     g.R.Shown c.args.rig.now c.put_in.new.rig all (c.in-Err.ensures.any_moment told))
 
 pub returns-in-Ok-clause-regions : goal.returns-in-Ok-clause-regions
