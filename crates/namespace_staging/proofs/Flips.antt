@@ -39,7 +39,8 @@ use Rattle.namespace_staging.proofs.Bounded.{all-bounded}
 use Rattle.namespace_staging.proofs.Members.{HasPlace, at-member, handles-differ, member-in, place-of}
 use Rattle.namespace_staging.proofs.Steps.{none-staged, step}
 
-no_module : LoadedModule
+-- what stands for a module that is not there
+pub no_module : LoadedModule
 no_module = record { dimm = 0; area = Missing }
 
 -- an area with a free slot is Ready
@@ -49,6 +50,10 @@ free-in (WrongSize size) some = absurd (omega arith)
 free-in (Uninit size) some = absurd (omega arith)
 free-in (Foreign size) some = absurd (omega arith)
 free-in (Ready area) some = some
+
+-- the module at a seat is that of a position
+pub seat-at : (ms : List LoadedModule) (r : Region) (i : ℕ) → i < length r.members → (seat : ℕ) → seat < length ms → ((d : LoadedModule) → (get_or ms seat d).dimm ≡ (member_at r i).handle) → dimm_at ms seat ≡ handle_at r i
+seat-at ms r i lt seat seat_lt named = dimm-at ms seat no_module seat_lt ∙ named no_module ∙ sym (handle-at r i lt)
 
 -- what is kept of modules and regions goes on to go together
 pub stays-on : (ms : List LoadedModule) (rs : List RegionLabels) (mid : List LoadedModule) (rs_mid : List RegionLabels) (now : List LoadedModule) (rs_now : List RegionLabels)
