@@ -16,7 +16,7 @@ use Rattle.label_table.specs.Tables.{is_member, slot_of}
 use Rattle.region_sets.specs.declared.modules.LoadedModule.{LoadedModule}
 use Rattle.region_sets.specs.declared.region.RegionLabels.{RegionLabels}
 use Rattle.region_sets.specs.Fates.{platform_of, region_in}
-use Rattle.region_sets.specs.Modules as modules
+use Rattle.region_sets.specs.Modules as loaded
 use Rattle.module_flips.specs.Together.{free_slots}
 use Rattle.namespace_staging.specs.Staging.{CanStage}
 use Rattle.label_sets.specs.Kept.{AllFree}
@@ -33,9 +33,9 @@ pub record CanStageAt (modules : List LoadedModule) (regions : List RegionLabels
   pub within : place < length regions
   pub is : (d : RegionLabels) → (slice_index_or regions place d).region ≡ region
   pub can : CanStage modules regions region space
-  pub open : IsOpenRange (platform_of regions) (modules.labels_in modules) region space
+  pub is_open : IsOpenRange (platform_of regions) (loaded.labels_in modules) region space
   pub ordered : AreOrdered (map region_in regions)
-  pub free : AllFree modules regions free
+  pub all_free : AllFree modules regions free
   pub spare : (e : FreeSpace) → 0 < (slice_index_or free place e).spare
 
 -- what holds of the region with an index
@@ -48,7 +48,7 @@ pub record CanStageIn (sets : StoredSets) (space : Namespace) (region : Region) 
   pub ready : status (labels_in sets) region ≡ RegionReady
   pub fresh : All (λ (member : Member). HasNone space.uuid (labels_in sets member.handle)) region.members
   pub free : All (λ (loaded : LoadedModule). is_member region loaded.dimm ≡ true → 0 < free_slots loaded) sets.modules
-  pub open : IsOpenRange (platform_in sets) (labels_in sets) region space
+  pub is_open : IsOpenRange (platform_in sets) (labels_in sets) region space
   pub long : 0 < space.length
 
 -- each module of the region has given a slot, and the others none
