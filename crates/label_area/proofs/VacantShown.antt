@@ -1,11 +1,11 @@
 -- An area without labels is the one that is stored once it is initialised.
-use Rattle.std.proofs.Common.{◌≡◌, inl, inr, ℕ, ◌+◌, ◌*◌, ◌<◌, true, List, length, get_or, replicate, Option, Some, None, refl, sym, ap, subst, ◌∙◌, arith}
+use Rattle.std.proofs.Common.{◌≡◌, inl, inr, ℕ, ◌<◌, true, List, length, get_or, replicate, Option, Some, None, refl, sym, ap, subst, ◌∙◌, arith}
 use Rattle.std.specs.FinMap.{get}
 use Rattle.std.specs.Option.{option_map}
 use Rattle.std.proofs.lemmas.Bool.{cases_lt}
 use Rattle.std.proofs.lemmas.List.{get_or-replicate, get_or_past, length-replicate}
 use Rattle.byte_ranges.specs.Ranges.{patched}
-use Rattle.rig_trait.specs.Areas.{Areas, size_in}
+use Rattle.rig_trait.specs.Areas.{Areas}
 use Rattle.index_block.specs.declared.geometry.Geometry.{Geometry}
 use Rattle.index_block.specs.declared.geometry.Place.TheVariants.{First}
 use Rattle.index_block.specs.Bitmap.{is_free_in}
@@ -16,7 +16,7 @@ use Rattle.label_area.specs.declared.blocks.Current.{Current}
 use Rattle.label_area.specs.Blocks.{current_block}
 use Rattle.label_area.specs.Inits.{IsVacant, first_block, initialised, second_block}
 use Rattle.label_area.specs.Kept.{live_of}
-use Rattle.label_area.specs.LoadedAreas.{LoadedArea, size_of}
+use Rattle.label_area.specs.LoadedAreas.{LoadedArea}
 use Rattle.label_area.specs.Loads.{IsShown}
 use Rattle.label_area.specs.Modules.{area_kind, module_of}
 use Rattle.label_area.specs.Slots.{free_bits}
