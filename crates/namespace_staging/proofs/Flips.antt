@@ -1,13 +1,13 @@
 -- The label of a position is put into the module there.
-use Rattle.std.proofs.Common.{◌≡◌, ◌≢◌, inl, inr, ℕ, ◌+◌, ◌^◌, ◌≤◌, ◌<◌, true, false, cond, List, ◌∷◌, length, get_or, map, drop, Option, Some, None, refl, sym, ap, subst, ◌∙◌, arith}
+use Rattle.std.proofs.Common.{◌≡◌, ◌≢◌, inl, inr, ℕ, ◌+◌, ◌^◌, ◌≤◌, ◌<◌, true, cond, List, ◌∷◌, length, get_or, map, drop, None, refl, sym, ap, subst, ◌∙◌, arith}
 use Rattle.std.specs.Prelude.{◌==◌}
-use Rattle.std.specs.List.{All, AllZip, Contains}
+use Rattle.std.specs.List.{All, AllZip}
 use Rattle.std.proofs.lemmas.Bool.{cases_eq}
 use Rattle.std.proofs.lemmas.List.{drop_more, get_or-map, length-map}
 use Rattle.rig_trait.specs.Areas.{Areas, SizesKept}
 use Rattle.rig_trait.specs.Areas as stored
 use Rattle.view_types.specs.declared.namespaces.Namespace.{Namespace}
-use Rattle.module_labels.specs.Labels.{Labels, Module}
+use Rattle.module_labels.specs.Labels.{Module}
 use Rattle.region_map.specs.declared.platform.Member.{Member}
 use Rattle.region_map.specs.declared.platform.Region.{Region}
 use Rattle.label_table.specs.Belonging.{member_at}
@@ -26,12 +26,12 @@ use Rattle.region_sets.specs.Regions.{handles}
 use Rattle.region_sets.proofs.Seated.{handle-at, length-handles}
 use Rattle.region_changes.specs.Changes.{dimm_at}
 use Rattle.region_changes.specs.Followed.{handle_at}
-use Rattle.region_changes.specs.Rooms.{HasRoomFor, HasRoomForAll, KeepsRegion, room_after_put}
+use Rattle.region_changes.specs.Rooms.{HasRoomForAll, KeepsRegion, room_after_put}
 use Rattle.region_changes.specs.SlotLabels.{AreApart}
 use Rattle.region_changes.proofs.ChangedModules.{dimm-at, labels-at}
 use Rattle.region_changes.proofs.RoomSums.{all-first, all-others, all-reserved}
 use Rattle.module_flips.specs.Flips.{HasFreeIn, IsPutAt, IsSizedIn, first_slot_in, with_put_at}
-use Rattle.module_flips.specs.Together.{IsTogether, StaysTogether, free_slots, free_slots_of, slots_in}
+use Rattle.module_flips.specs.Together.{StaysTogether, free_slots, free_slots_of}
 use Rattle.module_flips.proofs.Freed.{apart-at}
 use Rattle.namespace_staging.specs.Staged.{IsStagedTo, new_space, staged_label}
 use Rattle.namespace_staging.specs.Staging.{CanStage, CanStageAt, IsStaged, StagedBelow}
@@ -83,10 +83,12 @@ sized-on ms now areas areas_now dimms sizes kept all k d lt =
 module _ (ms : List LoadedModule) (rs : List RegionLabels) (r : Region) (s : Namespace) (can : CanStage ms rs r s) where
   -- the modules of the members are apart
   apart-handles : AreApart (handles r)
-  apart-handles = record { apart = λ i j lt j_lt.
-      let j_in : j < length r.members = subst (λ n. j < n) (length-handles r) j_lt in
-      let i_in : i < length r.members = omega (arith, lt, j_in) in
-      λ same. handles-differ (platform_of rs) can.together.disjoint r can.region_in i j i_in j_in (omega arith) (sym (handle-at r i i_in) ∙ same ∙ handle-at r j j_in) }
+  apart-handles = record {
+    apart = λ i j lt j_lt.
+        let j_in : j < length r.members = subst (λ n. j < n) (length-handles r) j_lt in
+        let i_in : i < length r.members = omega (arith, lt, j_in) in
+        λ same. handles-differ (platform_of rs) can.together.disjoint r can.region_in i j i_in j_in (omega arith) (sym (handle-at r i i_in) ∙ same ∙ handle-at r j j_in);
+  }
 
   -- before the first flip
   pub none-below : StagedBelow ms rs r s 0 ms rs

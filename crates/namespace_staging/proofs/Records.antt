@@ -1,10 +1,10 @@
 -- What several flips write, and what a stop within one of them leaves.
-use Rattle.std.proofs.Common.{◌≡◌, ◌≢◌, inl, inr, ℕ, ◌<◌, Bool, true, false, eq-eqb, List, length, get_or, map, refl, sym, ap, subst, ◌∙◌, arith}
+use Rattle.std.proofs.Common.{◌≡◌, inl, inr, ℕ, ◌<◌, true, false, eq-eqb, List, length, refl, sym, ap, subst, ◌∙◌, arith}
 use Rattle.std.specs.Prelude.{◌==◌}
 use Rattle.std.proofs.lemmas.List.Folds.{list_any_at}
 use Rattle.rig_trait.specs.declared.shown.Shown.{Ghosts}
 use Rattle.rig_trait.specs.Faults.{counted}
-use Rattle.rig_trait.specs.Frames.{FailsAt, GoesOn, IsTold, LeavesOnly, SaysNothing, WritesTo}
+use Rattle.rig_trait.specs.Frames.{FailsAt, GoesOn, LeavesOnly, WritesTo}
 use Rattle.rig_trait.proofs.Frames.{goes_on}
 use Rattle.rig_trait.proofs.Moments.{weakened}
 use Rattle.module_labels.specs.Labels.{Labels}

@@ -1,20 +1,20 @@
 -- The labels of a new namespace belong to its region, and are being changed.
-use Rattle.std.proofs.Common.{◌≡◌, ◌≢◌, inl, inr, ℕ, zero, suc, ◌+◌, ◌-◌, ◌≤◌, ◌<◌, Bool, true, false, List, [], ◌∷◌, length, get_or, Some, None, refl, sym, ap, subst, ◌∙◌, arith}
+use Rattle.std.proofs.Common.{◌≡◌, inl, inr, ℕ, ◌+◌, ◌≤◌, ◌<◌, true, false, List, [], ◌∷◌, length, get_or, Some, refl, sym, ap, subst, ◌∙◌, arith}
 use Rattle.std.specs.Prelude.{nat_lt}
-use Rattle.std.specs.List.{All, Contains}
+use Rattle.std.specs.List.{All}
 use Rattle.std.proofs.lemmas.Bool.{and_from, cases_lt}
 use Rattle.view_types.specs.declared.namespaces.Namespace.{Namespace}
 use Rattle.view_types.specs.Guids.{persistent_memory}
 use Rattle.label_codec.specs.declared.label.Label.{Label}
 use Rattle.label_codec.specs.Flags.{is_read_only, is_updating}
-use Rattle.module_labels.specs.Labels.{Labels, Module, has, number}
+use Rattle.module_labels.specs.Labels.{Labels, has, number}
 use Rattle.region_map.specs.declared.platform.Member.{Member}
 use Rattle.region_map.specs.declared.platform.Region.{Region}
 use Rattle.label_area.specs.Flips.{at_slot}
 use Rattle.label_table.specs.Belonging.{belongs, member_at, no_member, offset_in}
 use Rattle.label_table.specs.Division.{part_size}
 use Rattle.label_table.specs.Flips.{AllStale, AreAligned, AtMostOne, EachLabel, ExactlyOne, HasNone}
-use Rattle.label_table.specs.Spaces.{Space, space, space_of}
+use Rattle.label_table.specs.Spaces.{space, space_of}
 use Rattle.label_table.specs.Wholes.{all_ready, any_label, any_read_only, is_whole, label_count, labels_with}
 use Rattle.label_table.proofs.Confined.{number-none, whole-count}
 use Rattle.label_table.proofs.Leaving.{label_if-some}

@@ -1,5 +1,5 @@
 -- A staged label comes into a free slot of the module at its position.
-use Rattle.std.proofs.Common.{◌≡◌, ◌≢◌, ◌⊎◌, inl, inr, ℕ, ◌+◌, ◌≤◌, ◌<◌, Bool, true, false, cond, List, [], length, Option, Some, None, refl, sym, ap, subst, ◌∙◌, arith}
+use Rattle.std.proofs.Common.{◌≡◌, ◌≢◌, inl, inr, ℕ, ◌+◌, ◌≤◌, ◌<◌, Bool, true, false, cond, [], length, Some, None, refl, sym, ap, subst, ◌∙◌, arith}
 use Rattle.std.specs.Prelude.{◌==◌}
 use Rattle.std.specs.List.{All, Contains}
 use Rattle.std.proofs.lemmas.Bool.{cases_eq, cases_lt}
@@ -17,18 +17,17 @@ use Rattle.label_table.specs.Division.{part_size}
 use Rattle.label_table.specs.Flips.{AddsOne, HasNone, IsConfined}
 use Rattle.label_table.specs.Spaces.{space}
 use Rattle.label_table.specs.Tables.{State, state, with_namespace}
-use Rattle.label_table.specs.Wholes.{all_ready, any_label, is_whole, label_count, labels_with}
+use Rattle.label_table.specs.Wholes.{all_ready, any_label, label_count, labels_with}
 use Rattle.label_table.proofs.Confined.{ready-any}
 use Rattle.label_table.proofs.Leaving.{label_if-passes}
 use Rattle.label_table.proofs.Listed.{space-whole}
-use Rattle.label_table.proofs.ListTests.{both, eq_other, eq_same, eq_true, some_is, uuid_same}
+use Rattle.label_table.proofs.ListTests.{eq_other, eq_same, eq_true, some_is, uuid_same}
 use Rattle.label_table.proofs.OneFlip.{confined-by, put-other, with_label-bounded, with_module-bounded, with_module-here, with_module-other}
 use Rattle.label_table.proofs.Staging.{staged-gains, staged-kept}
-use Rattle.region_changes.specs.Spaces.{GainsNamespace}
 use Rattle.region_changes.proofs.FreeSpace.{completed}
 use Rattle.namespace_staging.specs.Staged.{HasGained, IsBeforeOrWith, IsStagedAt, IsStagedTo, new_space, staged_label}
 use Rattle.namespace_staging.proofs.Members.{handles-differ, member-in}
-use Rattle.namespace_staging.proofs.StagedLabels.{all-mine, all-stale, at-most-one, label-at, none-behind, none-counted, not-whole, stands}
+use Rattle.namespace_staging.proofs.StagedLabels.{all-mine, all-stale, at-most-one, none-behind, none-counted, not-whole, stands}
 
 -- the state is that before, or with the namespace
 pub fits-staged : (P : Platform) (r : Region) (s : Namespace) (start : Labels) (position : ℕ) (L : Labels) → IsStagedTo P r s start position L → IsBeforeOrWith P r (new_space s) start L

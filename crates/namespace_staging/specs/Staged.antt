@@ -55,7 +55,8 @@ pub record IsStagedAt (region : Region) (space : Namespace) (position k slot : �
   pub is : label ≡ at_slot slot (staged_label region space k)
 
 -- labels stand for the state before with the new namespace
-pub record HasGained (platform : Platform) (region : Region) (space : Namespace) (before labels : Labels) : Type 0 where
+pub record HasGained (platform : Platform) (region : Region) (space : Namespace)
+    (before labels : Labels) : Type 0 where
   pub state_is : state platform labels ≡ with_namespace region (new_space space) (state platform before)
   pub gains : GainsNamespace platform region (new_space space) before labels
 

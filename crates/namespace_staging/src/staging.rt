@@ -29,9 +29,10 @@ use rig_trait::Rig;
 use view_types::{Namespace, persistent_memory};
 
 /// Puts the label of a new namespace, marked as being changed, into the module of each member of its region, by
-/// ascending position and one flip each. By the last one the namespace stands, and is pending. Of `space`, `pending` and `read_only`
-/// are not looked at. A stop at any moment leaves areas that stand for the state before, or for the one with the
-/// namespace. `Err` where the rig failed: the labels of the positions before are left behind then, and what is kept
+/// ascending position and one flip each. By the last one the namespace stands, and is pending. Offset and length of
+/// `space` are in bytes of each member's part; its `pending` and `read_only` are not looked at. It takes no memory. A
+/// stop at any moment leaves areas that stand for the state before, or for that with the namespace. `Err` where the rig
+/// failed, with the module's handle: the modules of the positions before keep their labels then, and what is kept
 /// stands for the state before.
 pub fn stage_labels<R: Rig>(
     rig: &mut R,

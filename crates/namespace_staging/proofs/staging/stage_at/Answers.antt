@@ -1,4 +1,4 @@
-use Rattle.std.proofs.Common.{◌≡◌, ◌+◌, ℕ, None, Result, Ok, Err, get_or, length, map, sym, ap, subst, ◌∙◌, arith}
+use Rattle.std.proofs.Common.{◌≡◌, ◌+◌, ℕ, None, Result, Ok, Err, get_or, map, sym, ap, subst, ◌∙◌, arith}
 use Rattle.std.specs.Result.{OnOk, IfErr, is_err}
 use Rattle.std.specs.List.{All}
 use Rattle.rig_trait.specs.Frames.{FailsAt, LeavesOnly, WritesTo}
@@ -14,7 +14,7 @@ use Rattle.module_flips.specs.Flips.{IsPutAt, first_slot_in, with_put_at}
 use Rattle.module_flips.specs.Stops.{IsOneOf, LeftIn}
 use Rattle.module_flips.specs.declared.flips.AreaFailed.{AreaFailed}
 use Rattle.namespace_staging.specs.Staged.{IsBeforeOrWith, new_space, staged_label}
-use Rattle.namespace_staging.proofs.Flips.{free-in, next-below, next-labels, no_module, seat-at}
+use Rattle.namespace_staging.proofs.Flips.{next-below, next-labels, no_module, seat-at}
 use Rattle.namespace_staging.proofs.Records.{both_fit}
 use Rattle.namespace_staging.proofs.Steps.{fits-staged}
 use Rattle.namespace_staging.proofs.staging.stage_at.Goals as goal
