@@ -26,11 +26,7 @@ use Rattle.label_sets.specs.Kept.{AllFree, IsFree}
 
 -- regions of ascending index are apart
 ordered-apart : (rs : List Region) (i j : ℕ) (d : Region) → AreOrdered rs → i < j → j < length rs → (get_or rs i d).index < (get_or rs j d).index
-ordered-apart [] i j d pairs less lt = absurd (omega (arith, lt))
-ordered-apart (r ∷ rs) zero zero d pairs less lt = absurd (omega (arith, less))
-ordered-apart (r ∷ rs) zero (suc j) d pairs less lt = pairs.0 j d (omega (arith, lt))
-ordered-apart (r ∷ rs) (suc i) zero d pairs less lt = absurd (omega (arith, less))
-ordered-apart (r ∷ rs) (suc i) (suc j) d pairs less lt = ordered-apart rs i j d pairs.1 (omega (arith, less)) (omega (arith, lt))
+ordered-apart rs i j d pairs less lt = pairs i j d less lt
 
 pub regions-apart : (rs : List Region) (i j : ℕ) (d : Region) → AreOrdered rs → i < length rs → j < length rs → i ≢ j → get_or rs i d ≢ get_or rs j d
 regions-apart rs i j d pairs i_lt j_lt differ same = elim (cases_lt i j) [

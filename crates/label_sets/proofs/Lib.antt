@@ -9,3 +9,5 @@ pub mod Swept
 pub mod Sweeping
 pub mod SweptSets
 pub mod FreeAfter
+pub mod Stageable
+pub mod Written
