@@ -1,0 +1,4 @@
+pub mod Alike
+pub mod Replacing
+pub mod Turning
+pub mod Ending
