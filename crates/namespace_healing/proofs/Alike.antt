@@ -1,5 +1,5 @@
 -- A label that heals another one belongs where that belongs, and needs no healing.
-use Rattle.std.proofs.Common.{◌≡◌, ℕ, ◌+◌, ◌≤◌, ◌<◌, Bool, true, false, not, ◌&&◌, length, refl, sym, ap, ◌∙◌, arith}
+use Rattle.std.proofs.Common.{◌≡◌, ℕ, zero, suc, ◌+◌, ◌≤◌, ◌<◌, Bool, true, false, not, ◌&&◌, length, refl, sym, ap, ◌∙◌, arith}
 use Rattle.std.specs.Prelude.{◌==◌, ◌||◌, nat_lt, nat_le, min, bit_and}
 use Rattle.std.specs.Int.{bit_at}
 use Rattle.std.specs.Str.{bytes_eq}
@@ -25,8 +25,8 @@ kept-bit flags i set =
     bit_at_and flags 0xFFFFFFF7 i ∙ ap (min (bit_at flags i)) set ∙ by (bit_at flags i) lt
   where
     by : (n : ℕ) → n < 2 → min n 1 ≡ n
-    by 0 lt = refl
-    by 1 lt = refl
+    by zero lt = refl
+    by (suc zero) lt = refl
     by (suc (suc n)) lt = absurd (omega arith)
 
 pub read_only-kept : (leading own : Label) → is_read_only (healed_label leading own) ≡ is_read_only own

@@ -20,7 +20,7 @@ use Rattle.label_table.specs.Wholes.{agrees, all_ready, any_label, any_read_only
 use Rattle.label_table.proofs.Changing.{replaced-elsewhere, replaced-kept, replaced-state}
 use Rattle.label_table.proofs.Confined.{kind-same, whole-count}
 use Rattle.label_table.proofs.Equations.{changed_at-twice}
-use Rattle.label_table.proofs.ListTests.{Contains-get_or, eq_true, list_all-at, list_all-from, list_all-same, list_any-never, list_any-none, some_is}
+use Rattle.label_table.proofs.ListTests.{Contains-get_or, eq_same, eq_true, list_all-at, list_all-from, list_all-same, list_any-never, list_any-none, some_is}
 use Rattle.label_table.proofs.OneFlip.{confined-by, with_module-bounded, with_module-here, with_module-other}
 use Rattle.label_table.proofs.OnlyLabels.{only-first, only-passes}
 use Rattle.label_table.proofs.Order.{space-uuid}
@@ -169,11 +169,7 @@ module _ (P : Platform) (disjoint : IsDisjoint P) (r : Region) (r_in : Contains 
         (λ differ. list_any-none _ r.members y open_before.writable in_r))
 
     size_new : number (λ other. other.raw_size == lead.raw_size) (labels_with u M x.handle) == 1 ≡ true
-    size_new = let same : (lead.raw_size == lead.raw_size) ≡ true = eq_itself lead.raw_size in ap (λ n. n == 1) (only_new.passes (λ other. other.raw_size == lead.raw_size) ∙ (λ i. cond (same i) 1 0))
-      where
-        eq_itself : (n : ℕ) → (n == n) ≡ true
-        eq_itself zero = refl
-        eq_itself (suc n) = eq_itself n
+    size_new = let same : (lead.raw_size == lead.raw_size) ≡ true = eq_same lead.raw_size lead.raw_size refl in ap (λ n. n == 1) (only_new.passes (λ other. other.raw_size == lead.raw_size) ∙ (λ i. cond (same i) 1 0))
 
     sizes_after : ((y : Member) → Contains r.members y → y.handle ≢ x.handle → has_size lead (labels_with u L) y ≡ true) → list_all (has_size lead (labels_with u M)) r.members ≡ true
     sizes_after each = list_all-from _ r.members (λ y in_r. by-handle y.handle (λ h N. (number (λ other. other.raw_size == lead.raw_size) N == 1) ≡ true) (λ e. size_new) (each y in_r))
@@ -273,8 +269,8 @@ module _ (P : Platform) (disjoint : IsDisjoint P) (r : Region) (r_in : Contains 
           it k some in_r.1 y_is
         where
           above : (k : ℕ) → k ≢ 0 → 0 < k
-          above zero no = absurd (no refl)
-          above (suc k) no = omega arith
+          above zero differ = absurd (differ refl)
+          above (suc k) differ = omega arith
 
           by : (o : Option Label) → first (of_uuid u (L y.handle)) ≡ o → (k : ℕ) → 0 < k → k < length r.members → member_at r k ≡ y → has_size lead (labels_with u L) y ≡ true
           by None none k some below y_is = absurd (none_first (only-first u (L y.handle) (whole-count r u L y open_before.whole in_r)) none)
