@@ -18,9 +18,6 @@ use Rattle.namespace_healing.proofs.heal.heal_at.Goals as goal
 pub returns-then-not-needs_healing-clause-pass : goal.returns-then-not-needs_healing-clause-pass
 returns-then-not-needs_healing-clause-pass g c = no-pass (handles c.args.region.now) c.args.modules.now c.args.regions.now c.args.rig.now c.requires.turn.can.together
 
-pub put_at-requires-clause-stub : goal.put_at-requires-clause-stub
-put_at-requires-clause-stub g c = ?
-
 pub put_at-requires-clause-free : goal.put_at-requires-clause-free
 put_at-requires-clause-free g c =
     free-there c.args.modules.now c.args.regions.now c.args.region.now c.args.uuid.now c.args.leading.now c.args.position c.requires.within c.requires.turn c.place_at-own.result c.place_at-own.ensures
