@@ -1,5 +1,5 @@
 -- The labels of a namespace are healed one after the other, and then it is not pending.
-use Rattle.std.proofs.Common.{◌≡◌, ◌≢◌, ◌⊎◌, inl, inr, ℕ, zero, suc, ◌+◌, ◌<◌, ◌≤◌, Bool, true, false, not, ◌&&◌, cond, List, [], ◌∷◌, length, get_or, map, Option, Some, None, refl, sym, ap, subst, ◌∙◌, arith}
+use Rattle.std.proofs.Common.{◌≡◌, ◌≢◌, ◌⊎◌, inl, inr, ℕ, zero, suc, ◌+◌, ◌<◌, ◌≤◌, true, false, not, ◌&&◌, cond, List, [], ◌∷◌, length, Option, Some, None, refl, sym, ap, subst, ◌∙◌, arith}
 use Rattle.std.specs.Prelude.{◌==◌, nat_lt}
 use Rattle.std.specs.List.{Contains}
 use Rattle.std.specs.Option.{option_map_or}
@@ -12,7 +12,7 @@ use Rattle.region_map.specs.declared.platform.Member.{Member}
 use Rattle.region_map.specs.declared.platform.Platform.{Platform}
 use Rattle.region_map.specs.declared.platform.Region.{Region}
 use Rattle.region_map.specs.Platforms.{region_at}
-use Rattle.label_table.specs.Belonging.{IsDisjoint, member_at, no_member}
+use Rattle.label_table.specs.Belonging.{IsDisjoint, member_at}
 use Rattle.label_table.specs.Flips.{EachLabel}
 use Rattle.label_table.specs.Plain.{HasOnly, IsOnly}
 use Rattle.label_table.specs.Spaces.{is_pending}
@@ -21,10 +21,10 @@ use Rattle.label_table.specs.Wholes.{all_ready, any_label, any_read_only, any_up
 use Rattle.label_table.proofs.Confined.{whole-count}
 use Rattle.label_table.proofs.Equations.{changed_at-same}
 use Rattle.label_table.proofs.Leaving.{label_if-passes, within}
-use Rattle.label_table.proofs.ListTests.{list_any-never, none_some, some_is}
+use Rattle.label_table.proofs.ListTests.{list_any-never, none_some}
 use Rattle.label_table.proofs.OnlyLabels.{only-first}
 use Rattle.namespace_healing.specs.Labels.{needs_healing}
-use Rattle.namespace_healing.specs.Namespaces.{IsAlikeAt, IsHealedTo, IsOpen, IsTurned, label_at}
+use Rattle.namespace_healing.specs.Namespaces.{IsAlikeAt, IsHealedTo, IsOpen, IsTurned}
 use Rattle.namespace_healing.proofs.Alike.{well}
 use Rattle.namespace_healing.proofs.Turning.{leading-first, member-named, only-of}
 

@@ -1,14 +1,14 @@
 -- The label of one position is replaced by a flip of the module there.
-use Rattle.std.proofs.Common.{◌≡◌, ◌⊎◌, inl, inr, ℕ, zero, suc, ◌<◌, ◌≤◌, ◌+◌, Bool, true, false, cond, is_some, List, [], ◌∷◌, length, get_or, map, Option, Some, None, Result, Ok, Err, refl, sym, ap, subst, ◌∙◌, eq-eqb, arith}
+use Rattle.std.proofs.Common.{◌≡◌, inl, inr, ℕ, zero, suc, ◌<◌, ◌+◌, true, false, is_some, List, length, get_or, map, Some, None, Result, Ok, Err, refl, sym, ap, subst, ◌∙◌, arith}
 use Rattle.std.specs.Prelude.{◌==◌, IfErr, OnErr, OnOk}
-use Rattle.std.specs.List.{All, AllZip}
+use Rattle.std.specs.List.{AllZip}
 use Rattle.std.specs.Option.{option_map}
 use Rattle.std.specs.Result.{is_err}
-use Rattle.std.proofs.lemmas.Bool.{cases_eq, ne_eqb}
+use Rattle.std.proofs.lemmas.Bool.{cases_eq}
 use Rattle.std.proofs.lemmas.List.{ext_get_or, get_or-map, length-map}
 use Rattle.std.proofs.lemmas.List.Folds.{list_any_at}
 use Rattle.rig_trait.specs.declared.shown.Shown.{Ghosts}
-use Rattle.rig_trait.specs.Frames.{FailsAt, IsTold, LeavesOnly, WritesTo}
+use Rattle.rig_trait.specs.Frames.{FailsAt, LeavesOnly, WritesTo}
 use Rattle.rig_trait.proofs.Moments.{weakened}
 use Rattle.label_codec.specs.declared.label.Label.{Label}
 use Rattle.module_labels.specs.Labels.{IsBounded, Labels, Module}
@@ -19,7 +19,6 @@ use Rattle.region_map.specs.declared.platform.Region.{Region}
 use Rattle.label_table.specs.Belonging.{member_at, no_member}
 use Rattle.label_table.specs.Tables.{is_member, table}
 use Rattle.label_table.proofs.ListTests.{Contains-get_or, eq_same, list_any-at}
-use Rattle.region_changes.specs.declared.by_slot.SlotLabel.{SlotLabel}
 use Rattle.region_changes.specs.Changes.{IsChangedAt, dimm_at}
 use Rattle.region_changes.specs.Rooms.{KeepsRegion, room_after_put}
 use Rattle.region_changes.specs.SlotLabels.{replaced_label}
@@ -40,7 +39,7 @@ use Rattle.namespace_healing.specs.declared.places.LabelPlace.{LabelPlace}
 use Rattle.namespace_healing.specs.Healing.{CanTurn, StandsAt}
 use Rattle.namespace_healing.specs.Labels.{healed_label, needs_healing}
 use Rattle.namespace_healing.specs.Namespaces.{IsOpen, IsTurned}
-use Rattle.namespace_healing.specs.Passes.{HasTableOf, IsPass, room_in}
+use Rattle.namespace_healing.specs.Passes.{HasTableOf}
 use Rattle.namespace_healing.proofs.Bounded.{all-bounded}
 use Rattle.namespace_healing.proofs.Passing.{IsStill}
 use Rattle.namespace_healing.proofs.Turning.{kept-turn, turn-behind, turn-first}

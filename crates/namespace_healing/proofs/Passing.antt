@@ -1,11 +1,11 @@
 -- Turns of a heal, one behind the other, keep what each of them keeps.
-use Rattle.std.proofs.Common.{◌≡◌, ℕ, ◌<◌, ◌≤◌, ◌+◌, Bool, true, false, cond, List, [], ◌∷◌, length, get_or, map, Option, Some, None, Result, Ok, Err, refl, sym, ap, subst, ◌∙◌, arith}
+use Rattle.std.proofs.Common.{◌≡◌, ℕ, ◌<◌, true, false, List, [], ◌∷◌, length, get_or, map, Result, Ok, Err, refl, sym, ap, subst, ◌∙◌, arith}
 use Rattle.std.specs.List.{All, AllZip, Contains}
 use Rattle.std.proofs.lemmas.List.{get_or-map, length-map}
 use Rattle.rig_trait.specs.declared.shown.Shown.{Ghosts}
 use Rattle.rig_trait.specs.Areas.{Areas}
 use Rattle.rig_trait.specs.Areas as areas
-use Rattle.rig_trait.specs.Frames.{FailsAt, GoesOn, IsTold, LeavesOnly, SaysNothing}
+use Rattle.rig_trait.specs.Frames.{FailsAt, IsTold, LeavesOnly}
 use Rattle.rig_trait.specs.Faults.{counted}
 use Rattle.rig_trait.proofs.Frames.{goes_on}
 use Rattle.rig_trait.proofs.Moments.{weakened}
@@ -16,19 +16,18 @@ use Rattle.region_map.specs.declared.platform.Region.{Region}
 use Rattle.label_table.specs.Tables.{is_member, table}
 use Rattle.region_changes.specs.Rooms.{KeepsRegion}
 use Rattle.region_sets.specs.declared.modules.LoadedModule.{LoadedModule}
-use Rattle.region_sets.specs.declared.modules.ModuleArea.TheVariants.{Missing}
 use Rattle.region_sets.specs.declared.region.RegionLabels.{RegionLabels}
-use Rattle.region_sets.specs.Fates.{platform_of, region_in, with_regions}
+use Rattle.region_sets.specs.Fates.{platform_of, with_regions}
 use Rattle.region_sets.specs.Modules.{dimm_of, labels_in, size_in}
 use Rattle.module_flips.specs.Flips.{IsSizedIn}
-use Rattle.module_flips.specs.Stops.{FailedAmong, HasAreaCause, LeftIn, WritesAmong}
+use Rattle.module_flips.specs.Stops.{HasAreaCause, LeftIn}
 use Rattle.module_flips.specs.declared.flips.AreaFailed.{AreaFailed}
 use Rattle.module_flips.specs.Stored.{StandsIn}
 use Rattle.module_flips.specs.Together.{IsTogether, StaysTogether, free_slots}
 use Rattle.module_flips.proofs.Standing.{stands}
 use Rattle.module_flips.proofs.Turned.{no_flip, turned}
-use Rattle.namespace_healing.specs.Healing.{CanHeal, CanTurn, HasFreeFor}
-use Rattle.namespace_healing.specs.Namespaces.{IsAlikeAt, IsHealedTo, IsTurned}
+use Rattle.namespace_healing.specs.Healing.{CanHeal, CanTurn}
+use Rattle.namespace_healing.specs.Namespaces.{IsHealedTo}
 use Rattle.namespace_healing.specs.Passes.{HasTableOf, IsPass, room_in}
 
 -- the same values place by place, of equal lists of them

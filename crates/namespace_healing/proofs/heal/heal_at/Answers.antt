@@ -1,19 +1,14 @@
-use Rattle.std.proofs.Common.{◌≡◌, ◌+◌, ℕ, List, Some, Result, Ok, Err, get_or, length, sym, subst}
-use Rattle.std.specs.Prelude.{OnOk}
-use Rattle.module_labels.specs.Labels.{Labels}
-use Rattle.label_area.specs.Flips.{replaced}
-use Rattle.region_sets.specs.declared.modules.LoadedModule.{LoadedModule}
-use Rattle.region_sets.specs.declared.modules.ModuleArea.TheVariants.{Missing}
-use Rattle.region_sets.specs.declared.region.RegionLabels.{RegionLabels}
+use Rattle.std.proofs.Common.{◌≡◌, ◌∙◌, false, true, sym, subst}
 use Rattle.region_sets.specs.Fates.{platform_of}
 use Rattle.region_sets.specs.Modules.{labels_in}
 use Rattle.region_sets.specs.Regions.{handles}
-use Rattle.module_flips.specs.Together.{free_slots}
 use Rattle.namespace_healing.specs.Namespaces.{IsTurned}
-use Rattle.namespace_healing.specs.Passes.{IsPass}
-use Rattle.namespace_healing.proofs.Flipping.{either, flip-cause, flip-moment, flip-still, flip-turn, flip-writes, free-there, no_module, on_err2, on_ok, on_ok5, on_ok_all, replaced-there, well-turn}
+use Rattle.namespace_healing.proofs.Flipping.{either, flip-cause, flip-moment, flip-still, flip-turn, flip-writes, free-there, no_module, on_err2, on_ok, on_ok5, on_ok_all, replaced-there}
 use Rattle.namespace_healing.proofs.Passing.{IsStill, no-pass, still-kept}
 use Rattle.namespace_healing.proofs.heal.heal_at.Goals as goal
+
+apart : true ≡ false → ⊥
+apart e = cc
 
 pub returns-then-not-needs_healing-clause-pass : goal.returns-then-not-needs_healing-clause-pass
 returns-then-not-needs_healing-clause-pass g c = no-pass (handles c.args.region.now) c.args.modules.now c.args.regions.now c.args.rig.now c.requires.turn.can.together
@@ -61,3 +56,8 @@ pub returns-clause-cause : goal.returns-clause-cause
 returns-clause-cause g c =
     flip-cause c.args.modules.now c.args.regions.now c.args.region.now c.args.uuid.now c.args.leading.now c.args.position c.requires.within c.requires.turn c.place_at-own.result c.place_at-own.ensures
     g.R.Shown c.args.rig.now c.put_at.new.rig c.put_at.result c.put_at.ensures.cause c.put_at.ensures.names
+
+pub returns-clause-idle : goal.returns-clause-idle
+returns-clause-idle g c = λ well.
+    let clash : true ≡ false = c.if-not-needs_healing.ensures ∙ well c.place_at-own.result.label c.place_at-own.ensures.only.first_is in
+    absurd (apart clash)

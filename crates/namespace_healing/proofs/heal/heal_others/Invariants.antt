@@ -5,7 +5,7 @@ use Rattle.region_sets.specs.Fates.{platform_of}
 use Rattle.region_sets.specs.Modules.{labels_in}
 use Rattle.region_sets.specs.Regions.{handles}
 use Rattle.module_flips.specs.Stored.{StandsIn}
-use Rattle.namespace_healing.specs.Namespaces.{IsHealedTo}
+use Rattle.namespace_healing.specs.Namespaces.{IsHealedTo, IsWellFrom}
 use Rattle.namespace_healing.specs.Passes.{IsPass}
 use Rattle.namespace_healing.proofs.heal.heal_others.Given as goal
 
@@ -15,4 +15,5 @@ invariant-loop-position g l = record {
   healed : IsHealedTo (platform_of l.fn.regions) l.region l.uuid l.leading l.position (labels_in l.fn.modules) (labels_in l.modules);
   stands : IsTold g.R.Shown l.fn.rig → All (StandsIn (g.R.Shown.areas l.fn.rig)) l.fn.modules → All (StandsIn (g.R.Shown.areas l.rig)) l.modules;
   cause : FailsAt 0 g.R.Shown l.fn.rig l.rig false;
+  idle : IsWellFrom 1 (labels_in l.fn.modules) l.region l.uuid l.leading → (l.rig ≡ l.fn.rig) × (l.modules ≡ l.fn.modules);
 }
