@@ -1,9 +1,9 @@
 -- The labels of a namespace are healed one after the other, and then it is not pending.
-use Rattle.std.proofs.Common.{◌≡◌, ◌≢◌, ◌⊎◌, inl, inr, ℕ, zero, suc, ◌+◌, ◌<◌, ◌≤◌, Bool, true, false, not, ◌&&◌, cond, List, length, get_or, map, Option, Some, None, refl, sym, ap, subst, ◌∙◌, arith}
+use Rattle.std.proofs.Common.{◌≡◌, ◌≢◌, ◌⊎◌, inl, inr, ℕ, zero, suc, ◌+◌, ◌<◌, ◌≤◌, true, false, not, ◌&&◌, cond, List, [], ◌∷◌, length, Option, Some, None, refl, sym, ap, subst, ◌∙◌, arith}
 use Rattle.std.specs.Prelude.{◌==◌, nat_lt}
 use Rattle.std.specs.List.{Contains}
 use Rattle.std.specs.Option.{option_map_or}
-use Rattle.std.proofs.lemmas.Bool.{and_right, cases_eq}
+use Rattle.std.proofs.lemmas.Bool.{and_parts, and_right, cases_eq}
 use Rattle.label_codec.specs.declared.label.Label.{Label}
 use Rattle.label_codec.specs.Flags.{is_updating}
 use Rattle.module_labels.specs.Labels.{IsBounded, Labels, first, first_below, has, label_if, number, of_uuid}
@@ -12,19 +12,19 @@ use Rattle.region_map.specs.declared.platform.Member.{Member}
 use Rattle.region_map.specs.declared.platform.Platform.{Platform}
 use Rattle.region_map.specs.declared.platform.Region.{Region}
 use Rattle.region_map.specs.Platforms.{region_at}
-use Rattle.label_table.specs.Belonging.{IsDisjoint, member_at, no_member}
+use Rattle.label_table.specs.Belonging.{IsDisjoint, member_at}
 use Rattle.label_table.specs.Flips.{EachLabel}
 use Rattle.label_table.specs.Plain.{HasOnly, IsOnly}
 use Rattle.label_table.specs.Spaces.{is_pending}
 use Rattle.label_table.specs.Tables.{changed_at, pending_at, state, table}
-use Rattle.label_table.specs.Wholes.{any_label, any_read_only, any_updating, is_whole, labels_with, leading_label}
+use Rattle.label_table.specs.Wholes.{all_ready, any_label, any_read_only, any_updating, is_whole, is_whole_after, labels_with, leading_among, leading_label}
 use Rattle.label_table.proofs.Confined.{whole-count}
 use Rattle.label_table.proofs.Equations.{changed_at-same}
 use Rattle.label_table.proofs.Leaving.{label_if-passes, within}
-use Rattle.label_table.proofs.ListTests.{list_any-never, none_some, some_is}
+use Rattle.label_table.proofs.ListTests.{list_any-never, none_some}
 use Rattle.label_table.proofs.OnlyLabels.{only-first}
 use Rattle.namespace_healing.specs.Labels.{needs_healing}
-use Rattle.namespace_healing.specs.Namespaces.{IsAlikeAt, IsHealedTo, IsOpen, IsTurned, label_at}
+use Rattle.namespace_healing.specs.Namespaces.{IsAlikeAt, IsHealedTo, IsOpen, IsTurned}
 use Rattle.namespace_healing.proofs.Alike.{well}
 use Rattle.namespace_healing.proofs.Turning.{leading-first, member-named, only-of}
 
@@ -37,6 +37,28 @@ healed-start P r u lead L is_open leads = record {
   leads = leads;
   alike = λ position some below lt. absurd (omega (arith, some, below));
 }
+
+-- once the position is the number of members
+pub healed-all : (P : Platform) (r : Region) (u : List ℕ) (lead : Label) (i : ℕ) (start L : Labels) → length r.members ≤ i → IsHealedTo P r u lead i start L → IsHealedTo P r u lead (length r.members) start L
+healed-all P r u lead i start L le to = record {
+  same_table = to.same_table;
+  same_marks = to.same_marks;
+  stands = to.stands;
+  leads = to.leads;
+  alike = λ j some below lt. to.alike j some (omega (arith, below, le)) lt;
+}
+
+-- a region with a whole uuid has members
+pub some-members : (r : Region) (u : List ℕ) (L : Labels) → is_whole L r u ≡ true → 0 < length r.members
+some-members r u L whole = by r.members refl
+  where
+    by : (ms : List Member) → r.members ≡ ms → 0 < length r.members
+    by [] none = absurd (led (leading_label r (labels_with u L)) (ap (λ ms. leading_among ms (labels_with u L)) none) (and_parts (all_ready r L) _ whole).1)
+      where
+        led : (o : Option Label) → o ≡ None → is_whole_after r (labels_with u L) o ≡ true → ⊥
+        led None e t = cc
+        led (Some l) e t = cc
+    by (x ∷ xs) are = let e : length r.members ≡ suc (length xs) = ap length are in omega (arith, e)
 
 module _ (P : Platform) (disjoint : IsDisjoint P) (r : Region) (r_in : Contains P.regions r) (u : List ℕ) (lead : Label) (start L M : Labels) where
   -- the label at another position stays

@@ -3,12 +3,11 @@ use Rattle.std.proofs.Common.{◌≡◌, ◌≢◌, ℕ, ◌+◌, ◌<◌, ◌�
 use Rattle.std.specs.Prelude.{◌==◌, ◌||◌}
 use Rattle.label_codec.specs.declared.label.Label.{Label}
 use Rattle.module_labels.specs.Flips.{with_label, without_slots}
-use Rattle.module_labels.specs.Labels.{Module, count, has, number, of_uuid, one}
-use Rattle.module_labels.proofs.Counting.{Slots, count-change, one-some}
+use Rattle.module_labels.specs.Labels.{Module, count, has, number, one}
+use Rattle.module_labels.proofs.Counting.{count-change, one-some}
 use Rattle.label_area.specs.Flips.{is_among}
 use Rattle.label_table.specs.Flips.{other_labels}
 use Rattle.label_table.specs.Plain.{HasOnly}
-use Rattle.label_table.specs.Wholes.{any_label}
 use Rattle.label_table.proofs.ListTests.{eq_other, eq_same, eq_true, some_is}
 use Rattle.label_table.proofs.OneFlip.{freed-other, put-other, with_label-bounded, without_slots-bounded}
 use Rattle.region_sets.proofs.Found.{number-with, only-live}

@@ -1,5 +1,5 @@
 -- A label of a namespace is healed: the table is kept, and the marks of all other namespaces.
-use Rattle.std.proofs.Common.{◌≡◌, ◌≢◌, ◌⊎◌, inl, inr, ℕ, zero, suc, ◌<◌, ◌≤◌, Bool, true, false, not, ◌&&◌, cond, List, [], ◌∷◌, length, get_or, drop, Option, Some, None, refl, sym, ap, subst, ◌∙◌, arith}
+use Rattle.std.proofs.Common.{◌≡◌, ◌≢◌, inl, inr, ℕ, zero, suc, ◌<◌, Bool, true, false, not, ◌&&◌, cond, List, [], ◌∷◌, length, get_or, drop, Option, Some, None, refl, sym, ap, subst, ◌∙◌, arith}
 use Rattle.std.specs.Prelude.{◌==◌, ◌||◌, nat_lt}
 use Rattle.std.specs.List.{Contains, list_all}
 use Rattle.std.proofs.lemmas.Bool.{and_parts, cases_eq}
@@ -27,7 +27,7 @@ use Rattle.label_table.proofs.Order.{space-uuid}
 use Rattle.namespace_healing.specs.Healing.{HaveOneSize}
 use Rattle.namespace_healing.specs.Labels.{healed_label, needs_healing}
 use Rattle.namespace_healing.specs.Namespaces.{IsAlikeAt, IsOpen, IsTurned}
-use Rattle.namespace_healing.proofs.Alike.{IsWell, belongs-healed, is-well, read_only-kept, well}
+use Rattle.namespace_healing.proofs.Alike.{belongs-healed, is-well, read_only-kept, well}
 use Rattle.namespace_healing.proofs.Replacing as module_after
 
 -- the first of some members

@@ -56,8 +56,8 @@ pub record StandsAt (modules : List LoadedModule) (region : Region) (uuid : List
   pub has_uuid : has uuid place.label ≡ true
   pub only : HasOnly uuid (labels_in modules (member_at region position).handle) place.label
 
--- The namespace is healed: the table is kept, the namespace is not pending, and the marks of all others are kept. Each of
--- its labels has the values of the label that position 0 had, and each module has as many free slots as before.
+-- The namespace is healed: the table is kept, the namespace is not pending, and the marks of all others are kept. Each
+-- of its labels has the values of the label that position 0 had, and each module has as many free slots as before.
 pub record IsHealed (modules : List LoadedModule) (regions : List RegionLabels) (region : Region) (uuid : List ℕ)
     (now : List LoadedModule) : Type 0 where
   pub same_table : table (platform_of regions) (labels_in now) ≡ table (platform_of regions) (labels_in modules)

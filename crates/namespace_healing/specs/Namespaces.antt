@@ -1,5 +1,5 @@
 -- What one turn of a heal, and all of them, make of the labels.
-use Rattle.std.specs.Prelude.{◌≡◌, ◌≢◌, ℕ, ◌<◌, false, true, List, Option, Some, length}
+use Rattle.std.specs.Prelude.{◌≡◌, ◌≢◌, ℕ, ◌<◌, ◌≤◌, false, true, List, Option, Some, length}
 use Rattle.label_codec.specs.declared.label.Label.{Label}
 use Rattle.module_labels.specs.Labels.{Labels, first, of_uuid}
 use Rattle.region_map.specs.declared.platform.Platform.{Platform}
@@ -17,6 +17,11 @@ label_at labels region uuid position = first (of_uuid uuid (labels (member_at re
 abbrev pub IsAlikeAt : Labels → Region → List ℕ → Label → ℕ → Type 0
 IsAlikeAt labels region uuid leading position =
     (label : Label) → label_at labels region uuid position ≡ Some label → needs_healing leading label ≡ false
+
+-- so it is at each position from one on
+abbrev pub IsWellFrom : ℕ → Labels → Region → List ℕ → Label → Type 0
+IsWellFrom start labels region uuid leading = (position : ℕ) → start ≤ position → position < length region.members
+    → IsAlikeAt labels region uuid leading position
 
 -- the uuid is that of a namespace that is not read-only
 pub record IsOpen (labels : Labels) (region : Region) (uuid : List ℕ) : Type 0 where

@@ -23,8 +23,8 @@ abbrev pub HasTableOf : List LoadedModule → List RegionLabels → Labels → T
 HasTableOf modules regions labels =
     table (platform_of regions) labels ≡ table (platform_of regions) (labels_in modules)
 
--- Modules and regions go together as before, with as many free slots and as much room. What a stop at any moment leaves
--- stands for the table as it was, and no module but those with these handles is written.
+-- Modules and regions go together as before, with as many free slots and as much room. What a stop at any moment
+-- leaves stands for the table as it was, and no module but those with these handles is written.
 pub record IsPass {R : Type 0} (handles : List ℕ) (m : Ghosts R) (modules : List LoadedModule)
     (regions : List RegionLabels) (old : R) (now : List LoadedModule) (regions_now : List RegionLabels)
     (new : R) : Type 0 where

@@ -3,6 +3,7 @@
 ghost use Rattle.std.specs.Prelude.{◌≡◌, ◌<◌, Some, OnOk, length, map};
 ghost use Rattle.std.specs.List.{All, AllZip};
 ghost use Rattle.rig_trait.specs.Frames.{IsTold, LeavesOnly};
+ghost use Rattle.label_codec.specs.declared.label.Label.{Label};
 ghost use Rattle.label_table.specs.Tables.{table};
 ghost use Rattle.label_table.specs.Wholes.{labels_with, leading_label};
 ghost use Rattle.region_changes.specs.Rooms.{KeepsRegion};
@@ -14,7 +15,7 @@ ghost use Rattle.module_flips.specs.Stops.{HasAreaCause, LeftIn, WritesAmong};
 ghost use Rattle.module_flips.specs.Stored.{StandsIn};
 ghost use Rattle.module_flips.specs.Together.{StaysTogether};
 ghost use Rattle.namespace_healing.specs.Healing.{CanHeal, CanTurn, IsHealed};
-ghost use Rattle.namespace_healing.specs.Namespaces.{IsHealedTo, IsTurned};
+ghost use Rattle.namespace_healing.specs.Namespaces.{IsAlikeAt, IsHealedTo, IsTurned, IsWellFrom};
 ghost use Rattle.namespace_healing.specs.Passes.{IsPass, room_in};
 
 use crate::labels::{healed_label, needs_healing};
@@ -25,10 +26,11 @@ use region_map::Region;
 use region_sets::{LoadedModule, RegionLabels};
 use rig_trait::Rig;
 
-/// Heals a namespace of a region that is not read-only: each label of the positions from 1 on that is being changed, or
-/// differs from that of position 0 in name, sector size, abstraction or length, is replaced by one with these values of
-/// it that is no longer being changed; then so is that of position 0, where it is being changed. Each of the modules has
-/// a free slot. A stop at any moment leaves areas that stand for the same table. `Err` where the rig failed.
+/// Heals a namespace of a region that is not read-only. Each label of the positions from 1 on that is being changed, or
+/// differs from that of position 0 in name, sector size, abstraction or length, is replaced by one that has these of it
+/// and is no longer being changed. Then the label of position 0 is, where it is being changed. Each of the modules has a
+/// free slot. A stop at any moment leaves areas that stand for the same table. `Err` where the rig failed: what is kept
+/// is then what the flips before the failure made.
 pub fn heal_labels<R: Rig>(
     rig: &mut R,
     modules: &mut [LoadedModule],
@@ -51,6 +53,8 @@ pub fn heal_labels<R: Rig>(
     ensures cause { HasAreaCause (handles region.now) R.Shown rig.old rig.new result }
     ensures reads { R.reads rig.new ≡ R.reads rig.old }
     ensures room { AllZip (KeepsRegion room_in) regions.old regions.new }
+    ensures idle { (leading : Label) → leading_label region.now (labels_with uuid.now (labels_in modules.old))
+        ≡ Some leading → IsWellFrom 0 (labels_in modules.old) region.now uuid.now leading → rig.new ≡ rig.old }
 {
     let leading = place_at(modules, regions, region, uuid, 0).label;
     match heal_others(rig, modules, regions, region, uuid, &leading) {
@@ -73,10 +77,13 @@ fn heal_others<R: Rig>(
     requires sized { IsTold R.Shown rig.old → All (IsSizedIn (R.areas rig.old)) modules.old }
     ensures healed { OnOk result (IsHealedTo (platform_of regions.old) region.now uuid.now leading.now
         (length region.now.members) (labels_in modules.old) (labels_in modules.new)) }
-    ensures pass { IsPass (handles region.now) R.Shown modules.old regions.old rig.old modules.new regions.new rig.new }
+    ensures pass { IsPass (handles region.now) R.Shown
+        modules.old regions.old rig.old modules.new regions.new rig.new }
     ensures stands { IsTold R.Shown rig.old → All (StandsIn (R.areas rig.old)) modules.old
         → OnOk result (All (StandsIn (R.areas rig.new)) modules.new) }
     ensures cause { HasAreaCause (handles region.now) R.Shown rig.old rig.new result }
+    ensures idle { IsWellFrom 1 (labels_in modules.old) region.now uuid.now leading.now
+        → (rig.new ≡ rig.old) × (modules.new ≡ modules.old) }
 {
     for position in 1..region.members.len() {
         match heal_at(rig, modules, regions, region, uuid, leading, position) {
@@ -103,10 +110,13 @@ fn heal_at<R: Rig>(
     requires sized { IsTold R.Shown rig.old → All (IsSizedIn (R.areas rig.old)) modules.old }
     ensures turned { OnOk result (IsTurned (platform_of regions.old) region.now uuid.now leading.now position
         (labels_in modules.old) (labels_in modules.new)) }
-    ensures pass { IsPass (handles region.now) R.Shown modules.old regions.old rig.old modules.new regions.new rig.new }
+    ensures pass { IsPass (handles region.now) R.Shown
+        modules.old regions.old rig.old modules.new regions.new rig.new }
     ensures stands { IsTold R.Shown rig.old → All (StandsIn (R.areas rig.old)) modules.old
         → OnOk result (All (StandsIn (R.areas rig.new)) modules.new) }
     ensures cause { HasAreaCause (handles region.now) R.Shown rig.old rig.new result }
+    ensures idle { IsAlikeAt (labels_in modules.old) region.now uuid.now leading.now position
+        → (rig.new ≡ rig.old) × (modules.new ≡ modules.old) }
 {
     let own = place_at(modules, regions, region, uuid, position);
     if !needs_healing(leading, &own.label) {

@@ -42,7 +42,7 @@ pub(crate) fn place_at(
     let seat = kept.seats[position];
     match kept.index.find(uuid, position) {
         Found::Nowhere => unreachable!(),
-        Found::Once { slot } => match modules[seat].label(slot) {
+        Found::Once { slot } => match kept.module_at(modules, position).label(slot) {
             Some(label) => LabelPlace {
                 seat,
                 slot,
