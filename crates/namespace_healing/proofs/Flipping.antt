@@ -11,13 +11,14 @@ use Rattle.rig_trait.specs.declared.shown.Shown.{Ghosts}
 use Rattle.rig_trait.specs.Frames.{FailsAt, LeavesOnly, WritesTo}
 use Rattle.rig_trait.proofs.Moments.{weakened}
 use Rattle.label_codec.specs.declared.label.Label.{Label}
-use Rattle.module_labels.specs.Labels.{IsBounded, Labels, Module}
-use Rattle.label_area.specs.Flips.{is_among}
+use Rattle.module_labels.specs.Labels.{IsBounded, Labels, Module, number}
+use Rattle.label_area.specs.Flips.{Standing, at_slot, is_among}
 use Rattle.region_map.specs.declared.platform.Member.{Member}
 use Rattle.region_map.specs.declared.platform.Platform.{Platform}
 use Rattle.region_map.specs.declared.platform.Region.{Region}
 use Rattle.label_table.specs.Belonging.{member_at, no_member}
 use Rattle.label_table.specs.Tables.{is_member, table}
+use Rattle.label_table.specs.Wholes.{any_label}
 use Rattle.label_table.proofs.ListTests.{Contains-get_or, eq_same, list_any-at}
 use Rattle.region_changes.specs.Changes.{IsChangedAt, dimm_at}
 use Rattle.region_changes.specs.Rooms.{KeepsRegion, room_after_put}
@@ -39,8 +40,9 @@ use Rattle.namespace_healing.specs.declared.places.LabelPlace.{LabelPlace}
 use Rattle.namespace_healing.specs.Healing.{CanTurn, StandsAt}
 use Rattle.namespace_healing.specs.Labels.{healed_label, needs_healing}
 use Rattle.namespace_healing.specs.Namespaces.{IsOpen, IsTurned}
-use Rattle.namespace_healing.specs.Passes.{HasTableOf}
+use Rattle.namespace_healing.specs.Passes.{HasTableOf, label_number}
 use Rattle.namespace_healing.proofs.Bounded.{all-bounded}
+use Rattle.namespace_healing.proofs.Counts.{put-number}
 use Rattle.namespace_healing.proofs.Passing.{IsStill}
 use Rattle.namespace_healing.proofs.Turning.{kept-turn, turn-behind, turn-first}
 
@@ -75,6 +77,16 @@ on_ok_all (Err e) B all = tt
 pub either : {T E A : Type 0} (r : Result T E) → OnOk r A → OnErr r A → A
 either (Ok t) a b = a
 either (Err e) a b = b
+
+-- each module has as many labels, where that at the seat has
+counts-same : (ms now : List LoadedModule) (seat : ℕ) → IsChangedAt ms now seat → ((d : LoadedModule) → label_number (get_or now seat d) ≡ label_number (get_or ms seat d)) → map label_number now ≡ map label_number ms
+counts-same ms now seat changed same = ext_get_or 0 (map label_number now) (map label_number ms) (length-map now label_number ∙ changed.each ∙ sym (length-map ms label_number)) (λ k k_lt.
+    let k_now : k < length now = subst (λ n. k < n) (length-map now label_number) k_lt in
+    let k_ms : k < length ms = subst (λ n. k < n) changed.each k_now in
+    get_or-map label_number now k no_module 0 k_now ∙ elim (cases_eq k seat) [
+      | inl e ↦ ap (λ j. label_number (get_or now j no_module)) e ∙ same no_module ∙ ap (λ j. label_number (get_or ms j no_module)) (sym e)
+      | inr differ ↦ ap label_number (changed.others k no_module differ)
+    ] ∙ sym (get_or-map label_number ms k no_module 0 k_ms))
 
 -- each module has as many free slots, where that at the seat has
 free-same : (ms now : List LoadedModule) (seat : ℕ) → IsChangedAt ms now seat → ((d : LoadedModule) → free_slots (get_or now seat d) + 1 ≡ free_slots (get_or ms seat d) + 1) → map free_slots now ≡ map free_slots ms
@@ -164,6 +176,10 @@ module _ (ms : List LoadedModule) (rs : List RegionLabels) (region : Region) (u 
     flip-still now regions_now put labels together free rooms = record {
       together = together;
       same_free = free-same ms now place.seat put.changed free;
+      same_counts = counts-same ms now place.seat put.changed (λ d.
+          let here = module_in (get_or ms place.seat d) in
+          ap (λ (s : Standing). number any_label s.labels) (put.standing d)
+          ∙ put-number here (first_slot_in (get_or ms place.seat d)) place.slot (at_slot (first_slot_in (get_or ms place.seat d)) healed) place.label (within d) (subst (λ (N : Module). place.slot < N.slots) (here-is d) at.slot_within) (was_free d) (stored d));
       rooms = subst (λ o. AllZip (KeepsRegion (room_after_put (dimm_at ms place.seat) o)) rs regions_now) (ap (option_map (λ (l : Label). record { uuid = l.uuid; slot = place.slot })) (stored no_module)) rooms;
       same_table = ap (table P) labels ∙ (flip-turn no_module).same_table;
     }

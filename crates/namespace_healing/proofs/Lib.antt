@@ -5,4 +5,5 @@ pub mod Turning
 pub mod Ending
 pub mod Seats
 pub mod Passing
+pub mod Counts
 pub mod Flipping

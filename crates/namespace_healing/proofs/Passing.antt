@@ -28,7 +28,7 @@ use Rattle.module_flips.proofs.Standing.{stands}
 use Rattle.module_flips.proofs.Turned.{no_flip, turned}
 use Rattle.namespace_healing.specs.Healing.{CanHeal, CanTurn}
 use Rattle.namespace_healing.specs.Namespaces.{IsHealedTo}
-use Rattle.namespace_healing.specs.Passes.{HasTableOf, IsPass, room_in}
+use Rattle.namespace_healing.specs.Passes.{HasTableOf, IsPass, label_number, room_in}
 
 -- the same values place by place, of equal lists of them
 pub at-place : {X Y : Type 0} (f : X → Y) (xs ys : List X) → map f ys ≡ map f xs → (k : ℕ) (d : X) → k < length ys → f (get_or ys k d) ≡ f (get_or xs k d)
@@ -55,6 +55,7 @@ rooms-on (x ∷ xs) (y ∷ ys) (z ∷ zs) a b = (record { region = b.0.region �
 pub record IsStill (ms : List LoadedModule) (rs : List RegionLabels) (now : List LoadedModule) (regions_now : List RegionLabels) : Type 0 where
   pub together : StaysTogether ms rs now regions_now
   pub same_free : map free_slots now ≡ map free_slots ms
+  pub same_counts : map label_number now ≡ map label_number ms
   pub rooms : AllZip (KeepsRegion room_in) rs regions_now
   pub same_table : HasTableOf ms rs (labels_in now)
 
@@ -64,6 +65,7 @@ still-kept ms rs now regions_now together kept kept_regions =
     (subst (λ (xs : List RegionLabels). IsStill ms rs ms xs) (sym kept_regions) (record {
       together = record { dimms = refl; sizes = refl; slots = refl; same_regions = refl; together = together };
       same_free = refl;
+      same_counts = refl;
       rooms = rooms-still rs;
       same_table = refl;
     }))
@@ -74,6 +76,7 @@ module _ {R : Type 0} {m : Ghosts R} where
   no-pass hs ms rs rig together = record {
     together = record { dimms = refl; sizes = refl; slots = refl; same_regions = refl; together = together };
     same_free = refl;
+    same_counts = refl;
     rooms = rooms-still rs;
     same_table = refl;
     any_moment = λ told all. no_flip (map dimm_of ms) (HasTableOf ms rs) (labels_in ms) (stands ms (m.areas rig) all) refl;
@@ -100,6 +103,7 @@ module _ {R : Type 0} {m : Ghosts R} where
       together = second.together.together;
     };
     same_free = second.same_free ∙ first.same_free;
+    same_counts = second.same_counts ∙ first.same_counts;
     rooms = rooms-on rs rs1 rs2 first.rooms second.rooms;
     same_table = carried (labels_in ms2) second.same_table;
     any_moment = λ told all. turned (map dimm_of ms) (HasTableOf ms rs) (first.any_moment told all) first.writes.says.said (behind told all);

@@ -4,12 +4,13 @@ use Rattle.std.specs.List.{All, AllZip}
 use Rattle.rig_trait.specs.declared.shown.Shown.{Ghosts}
 use Rattle.rig_trait.specs.Frames.{IsTold, LeavesOnly}
 use Rattle.label_table.specs.Tables.{table}
-use Rattle.module_labels.specs.Labels.{Labels}
+use Rattle.label_table.specs.Wholes.{any_label}
+use Rattle.module_labels.specs.Labels.{Labels, number}
 use Rattle.region_changes.specs.Rooms.{KeepsRegion}
 use Rattle.region_sets.specs.declared.modules.LoadedModule.{LoadedModule}
 use Rattle.region_sets.specs.declared.region.RegionLabels.{RegionLabels}
 use Rattle.region_sets.specs.Fates.{platform_of}
-use Rattle.region_sets.specs.Modules.{dimm_of, labels_in}
+use Rattle.region_sets.specs.Modules.{dimm_of, labels_in, module_in}
 use Rattle.module_flips.specs.Stops.{LeftIn, WritesAmong}
 use Rattle.module_flips.specs.Stored.{StandsIn}
 use Rattle.module_flips.specs.Together.{StaysTogether, free_slots}
@@ -17,6 +18,10 @@ use Rattle.module_flips.specs.Together.{StaysTogether, free_slots}
 -- the room in the index of a region
 abbrev pub room_in : RegionLabels → ℕ
 room_in kept = kept.index.room
+
+-- how many live labels a module has
+abbrev pub label_number : LoadedModule → ℕ
+label_number loaded = number any_label (module_in loaded)
 
 -- labels stand for the table that other ones stand for
 abbrev pub HasTableOf : List LoadedModule → List RegionLabels → Labels → Type 0
@@ -30,6 +35,7 @@ pub record IsPass {R : Type 0} (handles : List ℕ) (m : Ghosts R) (modules : Li
     (new : R) : Type 0 where
   pub together : StaysTogether modules regions now regions_now
   pub same_free : map free_slots now ≡ map free_slots modules
+  pub same_counts : map label_number now ≡ map label_number modules
   pub rooms : AllZip (KeepsRegion room_in) regions regions_now
   pub same_table : HasTableOf modules regions (labels_in now)
   pub any_moment : IsTold m old → All (StandsIn (m.areas old)) modules

@@ -16,7 +16,7 @@ ghost use Rattle.module_flips.specs.Stored.{StandsIn};
 ghost use Rattle.module_flips.specs.Together.{StaysTogether};
 ghost use Rattle.namespace_healing.specs.Healing.{CanHeal, CanTurn, IsHealed};
 ghost use Rattle.namespace_healing.specs.Namespaces.{IsAlikeAt, IsHealedTo, IsTurned, IsWellFrom};
-ghost use Rattle.namespace_healing.specs.Passes.{IsPass, room_in};
+ghost use Rattle.namespace_healing.specs.Passes.{IsPass, label_number, room_in};
 
 use crate::labels::{healed_label, needs_healing};
 use crate::places::place_at;
@@ -53,6 +53,7 @@ pub fn heal_labels<R: Rig>(
     ensures cause { HasAreaCause (handles region.now) R.Shown rig.old rig.new result }
     ensures reads { R.reads rig.new ≡ R.reads rig.old }
     ensures room { AllZip (KeepsRegion room_in) regions.old regions.new }
+    ensures counts { map label_number modules.new ≡ map label_number modules.old }
     ensures idle { (leading : Label) → leading_label region.now (labels_with uuid.now (labels_in modules.old))
         ≡ Some leading → IsWellFrom 0 (labels_in modules.old) region.now uuid.now leading → rig.new ≡ rig.old }
 {

@@ -42,6 +42,7 @@ returns-clause-pass g c =
     record {
       together = still.together;
       same_free = still.same_free;
+      same_counts = still.same_counts;
       rooms = still.rooms;
       same_table = still.same_table;
       any_moment = λ told all.

@@ -86,6 +86,9 @@ returns-in-Ok-clause-reads g c = (two-passes c.in-Ok.ensures.pass c.in-Ok.ensure
 pub returns-in-Ok-clause-room : goal.returns-in-Ok-clause-room
 returns-in-Ok-clause-room g c = (two-passes c.in-Ok.ensures.pass c.in-Ok.ensures.stands c.heal_at.ensures.pass).rooms
 
+pub returns-in-Ok-clause-counts : goal.returns-in-Ok-clause-counts
+returns-in-Ok-clause-counts g c = (two-passes c.in-Ok.ensures.pass c.in-Ok.ensures.stands c.heal_at.ensures.pass).same_counts
+
 -- where all labels are well as to the leading one, so they are as to the label that was found
 well-found : (L : Labels) (region : Region) (u : List ℕ) (found leading : Label) → 0 < length region.members → first (of_uuid u (L (member_at region 0).handle)) ≡ Some found → leading_label region (labels_with u L) ≡ Some leading
     → IsWellFrom 0 L region u leading → (k : ℕ) → k < length region.members → IsAlikeAt L region u found k
