@@ -2,6 +2,7 @@
 //! swept (UEFI 2.7, section 13.19).
 #![tactic(auto)]
 
+mod healing;
 mod largest;
 mod load;
 mod lookups;

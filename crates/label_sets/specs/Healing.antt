@@ -1,0 +1,24 @@
+-- What healing a namespace of one of the regions asks and gives.
+use Rattle.std.specs.Prelude.{◌≡◌, ◌<◌, ℕ, false, true, List, map}
+use Rattle.std.specs.List.{All}
+use Rattle.label_table.specs.Statuses.{RegionReady, status}
+use Rattle.label_table.specs.Tables.{State, changed_at, is_member}
+use Rattle.label_table.specs.Wholes.{any_read_only, is_whole, labels_with}
+use Rattle.region_map.specs.declared.platform.Region.{Region}
+use Rattle.region_sets.specs.declared.modules.LoadedModule.{LoadedModule}
+use Rattle.module_flips.specs.Together.{free_slots}
+use Rattle.label_sets.specs.Sets.{StoredSets, labels_in, state_in}
+
+-- A namespace of a Ready region can be healed: it is not read-only, and each module has a free slot.
+pub record CanHealIn (sets : StoredSets) (uuid : List ℕ) (region : Region) : Type 0 where
+  pub ready : status (labels_in sets) region ≡ RegionReady
+  pub whole : is_whole (labels_in sets) region uuid ≡ true
+  pub writable : any_read_only region (labels_with uuid (labels_in sets)) ≡ false
+  pub free : All (λ (loaded : LoadedModule). is_member region loaded.dimm ≡ true → 0 < free_slots loaded) sets.modules
+
+-- The table is as before, and the namespace is not pending. The marks of all others are as before, and so are the
+-- numbers of free slots.
+pub record IsHealedIn (before after : StoredSets) (uuid : List ℕ) (region : Region) : Type 0 where
+  pub same_table : (state_in after).table ≡ (state_in before).table
+  pub marks : (state_in after).pending ≡ changed_at region uuid false (state_in before).pending
+  pub same_free : map free_slots after.modules ≡ map free_slots before.modules
