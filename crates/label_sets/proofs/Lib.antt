@@ -11,3 +11,4 @@ pub mod SweptSets
 pub mod FreeAfter
 pub mod Stageable
 pub mod Written
+pub mod EntryCounts
