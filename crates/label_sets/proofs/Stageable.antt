@@ -1,6 +1,6 @@
 -- A namespace can be staged in a Ready region of a sound platform.
-use Rattle.std.proofs.Common.{◌≡◌, ℕ, zero, suc, ◌+◌, ◌*◌, ◌-◌, ◌/◌, ◌<◌, ◌≤◌, ◌^◌, Bool, true, false, cond, ◌&&◌, List, [], ◌∷◌, length, get_or, map, Option, Some, None, refl, sym, ap, subst, ◌∙◌, arith}
-use Rattle.std.specs.Prelude.{nat_lt}
+use Rattle.std.proofs.Common.{◌≡◌, ℕ, zero, suc, ◌+◌, ◌*◌, ◌-◌, ◌/◌, ◌<◌, ◌≤◌, ◌^◌, Bool, true, false, cond, eqb, ◌&&◌, List, [], ◌∷◌, length, get_or, map, Option, Some, None, refl, sym, ap, subst, ◌∙◌, arith}
+use Rattle.std.specs.Prelude.{◌==◌, find, nat_lt}
 use Rattle.std.specs.List.{All, Contains, list_all}
 use Rattle.std.proofs.Math.Nat.{mul-div_cancel_left}
 use Rattle.std.proofs.lemmas.Bool.{and_parts, ltb-true}
@@ -62,6 +62,31 @@ one-size P r usable = λ k d lt.
     first-size : (members : List Member) (d : Member) → 0 < length members → (get_or members 0 d).size ≡ part_size (record r { members = members })
     first-size [] d some = absurd (omega (arith, some))
     first-size (x ∷ xs) d some = refl
+
+-- the same of a member that is told by no position
+pub one-size-of : (P : Platform) (r : Region) → IsUsable P r → (member : Member) → Contains r.members member → member.size ≡ part_size r
+one-size-of P r usable member listed = sym (ap (λ (m : Member). m.size) listed.2) ∙ one-size P r usable listed.0 member listed.1
+
+-- a region that is found is one of the platform's
+found-listed : (index : ℕ) (r : Region) (xs : List Region) → find (λ (region : Region). region.index == index) xs ≡ Some r → Contains xs r
+found-listed index r [] e = absurd (none e)
+  where
+    none : None ≡ Some r → ⊥
+    none f = cc
+found-listed index r (x ∷ xs) e = at (found-listed index r xs) (eqb x.index index) e
+  where
+    some : {y z : Region} → Some y ≡ Some z → y ≡ z
+    some f = cc
+
+    behind : Contains xs r → Contains (x ∷ xs) r
+    behind c = (suc c.0, (let lt : c.0 < length xs = c.1 in omega (arith, lt)), c.2)
+
+    at : (find (λ (region : Region). region.index == index) xs ≡ Some r → Contains xs r) → (b : Bool) → cond b (Some x) (find (λ (region : Region). region.index == index) xs) ≡ Some r → Contains (x ∷ xs) r
+    at rest true f = (0, omega arith, some f)
+    at rest false f = behind (rest f)
+
+pub region-listed : (P : Platform) (index : ℕ) (r : Region) → region_at P index ≡ Some r → Contains P.regions r
+region-listed P index r found = found-listed index r P.regions found
 
 module _ (P : Platform) (sound : IsSound P) (ms : List LoadedModule) (rs : List RegionLabels) (same : P.regions ≡ map region_in rs) (index place : ℕ) (r : Region) (found : region_at (platform_of rs) index ≡ Some r) (is_place : IsPlaceOf (map region_in rs) index (Some place)) where
   pub place-within : place < length rs
