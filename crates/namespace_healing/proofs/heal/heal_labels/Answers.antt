@@ -26,6 +26,11 @@ use Rattle.namespace_healing.proofs.Passing.{can-turn, passed-on, sized-on}
 use Rattle.namespace_healing.proofs.Turning.{leading-first}
 use Rattle.namespace_healing.proofs.heal.heal_labels.Goals as goal
 
+-- the label that was found at position 0 is the leading one
+same-leading : (L : Labels) (region : Region) (u : List ℕ) (found leading : Label) → 0 < length region.members → first (of_uuid u (L (member_at region 0).handle)) ≡ Some found → leading_label region (labels_with u L) ≡ Some leading
+    → found ≡ leading
+same-leading L region u found leading some is leads = some_is (sym is ∙ sym (leading-first region (labels_with u L) some) ∙ leads)
+
 pub heal_at-requires-clause-turn : goal.heal_at-requires-clause-turn
 heal_at-requires-clause-turn g c =
     can-turn (handles c.args.region.now) c.args.modules.now c.args.regions.now c.args.rig.now c.heal_others.new.modules c.heal_others.new.regions c.heal_others.new.rig c.args.region.now c.args.uuid.now c.place_at.result.label
@@ -57,7 +62,7 @@ returns-in-Ok-clause-healed g c =
       marks = all-marks P can.together.disjoint region can.region_in u lead (labels_in ms) L M bounded _ refl some first.healed turned;
       alike = λ leading leads.
           subst (λ (l : Label). EachLabel region u M (λ member label. needs_healing l label ≡ false))
-          (some_is (sym c.place_at.ensures.only.first_is ∙ sym (leading-first region (labels_with u (labels_in ms)) some) ∙ leads))
+          (same-leading (labels_in ms) region u lead leading some c.place_at.ensures.only.first_is leads)
           (all-alike P can.together.disjoint region can.region_in u lead (labels_in ms) L M bounded _ refl some first.healed turned);
       same_free = last.same_free ∙ first.pass.same_free;
     })
@@ -92,8 +97,7 @@ returns-in-Ok-clause-counts g c = (two-passes c.in-Ok.ensures.pass c.in-Ok.ensur
 -- where all labels are well as to the leading one, so they are as to the label that was found
 well-found : (L : Labels) (region : Region) (u : List ℕ) (found leading : Label) → 0 < length region.members → first (of_uuid u (L (member_at region 0).handle)) ≡ Some found → leading_label region (labels_with u L) ≡ Some leading
     → IsWellFrom 0 L region u leading → (k : ℕ) → k < length region.members → IsAlikeAt L region u found k
-well-found L region u found leading some is leads well k lt =
-    subst (λ (l : Label). IsAlikeAt L region u l k) (sym (some_is (sym is ∙ sym (leading-first region (labels_with u L) some) ∙ leads))) (well k (omega arith) lt)
+well-found L region u found leading some is leads well k lt = subst (λ (l : Label). IsAlikeAt L region u l k) (sym (same-leading L region u found leading some is leads)) (well k (omega arith) lt)
 
 pub returns-in-Ok-clause-idle : goal.returns-in-Ok-clause-idle
 returns-in-Ok-clause-idle g c = λ leading leads well.
