@@ -2,6 +2,7 @@
 //! swept (UEFI 2.7, section 13.19).
 #![tactic(auto)]
 
+mod init;
 mod largest;
 mod load;
 mod lookups;
@@ -11,6 +12,7 @@ mod sets;
 mod sweep;
 mod views;
 
+pub use init::SetInitFault;
 pub use load::SetFault;
 pub use module_flips::AreaFailed;
 pub use read::read_state;

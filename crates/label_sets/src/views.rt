@@ -95,7 +95,7 @@ impl Sets {
     }
 
     /// The state of a module's area.
-    fn state_of(&self, loaded: &LoadedModule) -> AreaState
+    pub(crate) fn state_of(&self, loaded: &LoadedModule) -> AreaState
         ensures { result ≡ area_state (platform_in self.now) (labels_in self.now) loaded.now }
     {
         match loaded.kind() {
