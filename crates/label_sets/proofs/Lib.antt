@@ -8,3 +8,4 @@ pub mod Unwanted
 pub mod Swept
 pub mod Sweeping
 pub mod SweptSets
+pub mod InitialisedSets

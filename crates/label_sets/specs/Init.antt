@@ -67,8 +67,8 @@ slots_at sets dimm = slots_by_size (option_and_then size_in (find (is_of dimm) s
 
 -- the state of a module's area, as it is shown
 abbrev pub state_at : StoredSets → ℕ → Option AreaState
-state_at sets dimm =
-    option_map (area_state (platform_in sets) (sets.labels_in sets)) (find (is_of dimm) sets.modules)
+state_at stored dimm =
+    option_map (area_state (platform_in stored) (sets.labels_in stored)) (find (is_of dimm) stored.modules)
 
 -- the state once the area of a module is initialised: held labels of other modules may be dead now, and vanish
 abbrev pub initialised_state : Platform → ℕ → ℕ → State → State

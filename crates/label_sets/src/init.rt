@@ -92,9 +92,9 @@ impl Sets {
         ensures room { OnOk result (self.new.room ≡ false) }
         ensures dimms { map dimm_of self.new.modules ≡ map dimm_of self.old.modules }
         ensures sizes { map size_in self.new.modules ≡ map size_in self.old.modules }
-        ensures not_uninit { IfRefused result (λ state. state ≢ state.Uninit) }
+        ensures not_uninit { IfRefused result (λ told. told ≢ state.Uninit) }
         ensures refused { IsTold R.Shown rig.old → All (StandsIn (R.areas rig.old)) self.old.modules
-            → IfRefused result (λ state. state_at self.old dimm ≡ Some state) }
+            → IfRefused result (λ told. state_at self.old dimm ≡ Some told) }
         ensures stands { IsTold R.Shown rig.old → All (StandsIn (R.areas rig.old)) self.old.modules
             → is_init_failed result ≡ false → All (StandsIn (R.areas rig.new)) self.new.modules }
         ensures any_moment { IsTold R.Shown rig.old → All (StandsIn (R.areas rig.old)) self.old.modules
@@ -140,10 +140,10 @@ impl Sets {
     /// Why the area of a module isn't initialised of which an area is kept that is not Uninit.
     fn refusal<R: Rig>(&self, alloc: Global, rig: &mut R, kept: &LoadedModule) -> SetInitFault
         requires { uninit_size kept.now.area ≡ None }
-        ensures not_uninit { IfRefused {T = LoadedModule} (Err result) (λ state. state ≢ state.Uninit) }
+        ensures not_uninit { IfRefused {T = LoadedModule} (Err result) (λ told. told ≢ state.Uninit) }
         ensures refused { IsTold R.Shown rig.old → StandsIn (R.areas rig.old) kept.now
             → IfRefused {T = LoadedModule} (Err result)
-            (λ state. state ≡ area_state (platform_in self.now) (sets.labels_in self.now) kept.now) }
+            (λ told. told ≡ area_state (platform_in self.now) (sets.labels_in self.now) kept.now) }
         ensures reads_only { Reads R.Shown rig.old rig.new }
         ensures cause { FailsAt kept.now.dimm R.Shown rig.old rig.new (is_init_failed {T = LoadedModule} (Err result)) }
         ensures names { NamesModule {T = LoadedModule} kept.now.dimm (Err result) }
@@ -223,9 +223,9 @@ fn init_at<R: Rig>(
     ensures slots { IfOk result (λ lists. All (HasSlotsWithin (vec_capacity lists.slots)) modules.new) }
     ensures lost { IfOk result (λ lists. All (HasSlotsWithin (vec_capacity lists.lost)) modules.new) }
     ensures kept { OnErr result (modules.new ≡ modules.old) }
-    ensures not_uninit { IfRefused result (λ state. state ≢ state.Uninit) }
+    ensures not_uninit { IfRefused result (λ told. told ≢ state.Uninit) }
     ensures told { IsTold R.Shown rig.old → All (StandsIn (R.areas rig.old)) modules.old
-        → IfRefused result (λ state. ⊥) }
+        → IfRefused result (λ told. ⊥) }
     ensures stands { IsTold R.Shown rig.old → All (StandsIn (R.areas rig.old)) modules.old
         → OnOk result (All (StandsIn (R.areas rig.new)) modules.new) }
     ensures any_moment { IsTold R.Shown rig.old → All (StandsIn (R.areas rig.old)) modules.old
@@ -269,9 +269,9 @@ fn init_over<R: Rig>(
     ensures free { IfOk result (λ lists. AllFree modules.now regions.now lists.free.items) }
     ensures slots { IfOk result (λ lists. All (HasSlotsWithin (vec_capacity lists.slots)) modules.now) }
     ensures lost { IfOk result (λ lists. All (HasSlotsWithin (vec_capacity lists.lost)) modules.now) }
-    ensures not_uninit { IfRefused result (λ state. state ≢ state.Uninit) }
+    ensures not_uninit { IfRefused result (λ told. told ≢ state.Uninit) }
     ensures told { IsTold R.Shown rig.old
-        → IfRefused result (λ state. area_kind (get (R.areas rig.old) dimm) ≢ kind.Uninit) }
+        → IfRefused result (λ told. area_kind (get (R.areas rig.old) dimm) ≢ kind.Uninit) }
     ensures written { IsTold R.Shown rig.old → OnOk result (R.areas rig.new ≡ initialised dimm (R.areas rig.old)) }
     ensures any_moment { IsTold R.Shown rig.old
         → LeavesOnly R.Shown rig.old rig.new (LeftByInit (R.areas rig.old) (R.said rig.old) dimm) }
