@@ -1,5 +1,5 @@
 -- What is kept of all modules once the area of one is initialised.
-use Rattle.std.proofs.Common.{◌≡◌, ◌≢◌, ◌⊎◌, inl, inr, ℕ, zero, suc, ◌+◌, ◌<◌, Bool, true, false, cond, eqb, ◌++◌, ◌∷◌, [], List, length, get_or, map, set, Option, Some, None, refl, sym, ap, subst, ◌∙◌, eq-eqb, eqb-true, arith}
+use Rattle.std.proofs.Common.{◌≡◌, ◌≢◌, ◌⊎◌, inl, inr, ℕ, zero, suc, ◌+◌, ◌<◌, Bool, true, false, cond, eqb, ◌++◌, ◌∷◌, [], List, length, get_or, map, set, Option, Some, None, Result, Ok, Err, refl, sym, ap, subst, ◌∙◌, eq-eqb, eqb-true, arith}
 use Rattle.std.specs.Prelude.{◌==◌, find, unwrap_or}
 use Rattle.std.specs.FinMap.{get}
 use Rattle.std.specs.List.{All}
@@ -55,7 +55,10 @@ use Rattle.module_flips.proofs.Freed.{stands-after}
 use Rattle.module_flips.proofs.Standing.{stands}
 use Rattle.module_flips.proofs.Stored.{no_block}
 use Rattle.module_flips.proofs.Turned.{one_flip}
-use Rattle.label_sets.specs.Init.{IsInitialisedTo, initialised_state, slots_by_size, vacant_module}
+use Rattle.view_types.specs.declared.states.AreaState.{AreaState}
+use Rattle.label_sets.specs.declared.init.SetInitFault.{SetInitFault}
+use Rattle.label_sets.specs.declared.init.SetInitFault.TheVariants.{Refused, Failed, Memory}
+use Rattle.label_sets.specs.Init.{IfRefused, IsInitialisedTo, initialised_state, slots_by_size, vacant_module}
 
 -- the module that stands at a place is found by its handle
 pub find-own : (xs : List LoadedModule) (at : ℕ) (d : LoadedModule) → EachOnce xs → at < length xs → find (is_of (get_or xs at d).dimm) xs ≡ Some (get_or xs at d)
@@ -161,6 +164,23 @@ slots-sized (Some bytes) size g sized found =
 pub slots-by : (size : ℕ) (g : Geometry) → geometry_of size 256 ≡ Some g → g.slots ≡ slots_by_size (Some size)
 slots-by size g found = sym (ap (λ layout. option_map_or (λ (h : Geometry). h.slots) layout 0) found)
 
+-- a module that is written back
+pub restored : (ms : List LoadedModule) (seat : ℕ) (a b : LoadedModule) → seat < length ms → ((d : LoadedModule) → get_or ms seat d ≡ b) → set (set ms seat a) seat b ≡ ms
+restored ms seat a b lt is =
+    let long : length (set (set ms seat a) seat b) ≡ length ms = length-set (set ms seat a) seat b ∙ length-set ms seat a in
+    let lt_set : seat < length (set ms seat a) = subst (λ n. seat < n) (sym (length-set ms seat a)) lt in
+    ext_get_or b (set (set ms seat a) seat b) ms long (λ k k_lt. elim (cases_eq k seat) [
+      | inl e ↦ subst (λ j. get_or (set (set ms seat a) seat b) j b ≡ get_or ms j b) (sym e) (get_or-set_same (set ms seat a) seat b b lt_set ∙ sym (is b))
+      | inr differ ↦ get_or-set_other (set ms seat a) seat k b b differ ∙ get_or-set_other ms seat k a b differ
+    ])
+
+-- what follows of the state that a refusal tells
+pub refused-so : {T : Type 0} (r : Result T SetInitFault) (P Q : AreaState → Type 0) → ((s : AreaState) → P s → Q s) → IfRefused r P → IfRefused r Q
+refused-so (Ok t) P Q so is = tt
+refused-so (Err (Refused s)) P Q so is = so s is
+refused-so (Err (Failed dimm)) P Q so is = tt
+refused-so (Err Memory) P Q so is = tt
+
 -- the area of the module at a seat was Uninit, and is vacant now
 module _ (ms : List LoadedModule) (seat dimm size : ℕ) (area : LoadedArea) (lt : seat < length ms) (named : (d : LoadedModule) → (get_or ms seat d).dimm ≡ dimm)
     (uninit : (d : LoadedModule) → (get_or ms seat d).area ≡ Uninit size) (vacant : IsVacantArea dimm size area) (once : EachOnce ms) where
@@ -261,7 +281,7 @@ module _ (ms : List LoadedModule) (seat dimm size : ℕ) (area : LoadedArea) (lt
         stands-after ms seat lt once (get_or ms seat new) new (get_or_default ms seat new (get_or ms seat new) lt) (sym (named (get_or ms seat new))) areas (initialised dimm areas)
         (subst (λ h. OthersKept h areas (initialised dimm areas)) (sym handle) others) all (vacant.dimm_is, vacant.shown areas was-uninit stored-here.1)
 
-    after : Standing
+    abbrev pub after : Standing
     after = record { labels = vacant_module area.geometry.slots; used = λ slot. false }
 
     to-flip : (said : List ℕ) (c : CrashRecord) → LeftByInit areas said dimm c → LeftByFlip areas said dimm after c

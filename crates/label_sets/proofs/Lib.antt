@@ -9,3 +9,4 @@ pub mod Swept
 pub mod Sweeping
 pub mod SweptSets
 pub mod InitialisedSets
+pub mod Refusals
