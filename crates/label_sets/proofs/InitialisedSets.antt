@@ -28,7 +28,8 @@ use Rattle.label_area.specs.Flips.{LeftByFlip, Standing, standing_of}
 use Rattle.label_area.specs.Inits.{IsVacant, LeftByInit, initialised, layout_of, slots_of}
 use Rattle.label_area.specs.LoadedAreas.{LoadedArea}
 use Rattle.label_area.specs.Modules as stored
-use Rattle.label_area.specs.Modules.{area_kind}
+use Rattle.label_area.specs.Modules.{area_kind, kind_by_layouts}
+use Rattle.label_area.specs.declared.layouts.Layouts.{Layouts}
 use Rattle.label_area.specs.Slots.{free_bits, is_in_use}
 use Rattle.label_area.specs.VacantAreas.{IsVacantArea}
 use Rattle.label_area.proofs.Vacant.{unused}
@@ -58,7 +59,7 @@ use Rattle.module_flips.proofs.Turned.{one_flip}
 use Rattle.view_types.specs.declared.states.AreaState.{AreaState}
 use Rattle.label_sets.specs.declared.init.SetInitFault.{SetInitFault}
 use Rattle.label_sets.specs.declared.init.SetInitFault.TheVariants.{Refused, Failed, Memory}
-use Rattle.label_sets.specs.Init.{IfRefused, IsInitialisedTo, initialised_state, slots_by_size, vacant_module}
+use Rattle.label_sets.specs.Init.{IsInitialisedTo, Refuses, UnlessFailed, is_failure, initialised_state, slots_by_size, vacant_module}
 
 -- the module that stands at a place is found by its handle
 pub find-own : (xs : List LoadedModule) (at : ℕ) (d : LoadedModule) → EachOnce xs → at < length xs → find (is_of (get_or xs at d).dimm) xs ≡ Some (get_or xs at d)
@@ -175,11 +176,34 @@ restored ms seat a b lt is =
     ])
 
 -- what follows of the state that a refusal tells
-pub refused-so : {T : Type 0} (r : Result T SetInitFault) (P Q : AreaState → Type 0) → ((s : AreaState) → P s → Q s) → IfRefused r P → IfRefused r Q
-refused-so (Ok t) P Q so is = tt
-refused-so (Err (Refused s)) P Q so is = so s is
-refused-so (Err (Failed dimm)) P Q so is = tt
-refused-so (Err Memory) P Q so is = tt
+pub refused-so : (f : SetInitFault) (P Q : AreaState → Type 0) → ((s : AreaState) → P s → Q s) → Refuses P f → Refuses Q f
+refused-so (Refused s) P Q so is = so s is
+refused-so (Failed dimm) P Q so is = tt
+refused-so Memory P Q so is = tt
+
+pub unfailed : (f : SetInitFault) (P : Type 0) → UnlessFailed P f → is_failure f ≡ false → P
+unfailed (Refused s) P is e = is
+unfailed (Failed dimm) P is e = absurd cc
+unfailed Memory P is e = is
+
+abbrev layouts : Geometry → Geometry → Layouts
+layouts own old = record { own = own; old = old }
+
+-- no area that is Uninit has a size that areas cannot have
+pub no-layout : (o : Option (List ℕ)) (size : ℕ) → area_kind o ≡ kind.Uninit → option_map length o ≡ Some size → geometry_of size 256 ≡ None → ⊥
+no-layout None size uninit sized none = cc
+no-layout (Some bytes) size uninit sized none =
+    wrong (ap (λ (layouts : Option Layouts). kind_by_layouts layouts bytes) (sym (none-of (geometry_of (length bytes) 256) (geometry_of (length bytes) 128) (ap (λ (n : ℕ). geometry_of n 256) (some-same (length bytes) size sized) ∙ none))) ∙ uninit)
+  where
+    some-same : (a b : ℕ) → Some a ≡ Some b → a ≡ b
+    some-same a b e = cc
+
+    none-of : (own old : Option Geometry) → own ≡ None → option_and_then (λ o. option_map (λ (l : Geometry). layouts o l) old) own ≡ None
+    none-of None old e = refl
+    none-of (Some g) old e = absurd cc
+
+    wrong : kind.WrongSize ≡ kind.Uninit → ⊥
+    wrong e = cc
 
 -- the area of the module at a seat was Uninit, and is vacant now
 module _ (ms : List LoadedModule) (seat dimm size : ℕ) (area : LoadedArea) (lt : seat < length ms) (named : (d : LoadedModule) → (get_or ms seat d).dimm ≡ dimm)

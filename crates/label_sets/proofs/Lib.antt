@@ -10,3 +10,4 @@ pub mod Sweeping
 pub mod SweptSets
 pub mod InitialisedSets
 pub mod Refusals
+pub mod InitSets

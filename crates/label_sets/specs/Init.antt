@@ -30,32 +30,32 @@ use Rattle.label_sets.specs.Sweeps.{ChangesOnly}
 use Rattle.label_sets.specs.Views.{area_state}
 
 -- the rig failed
+abbrev pub is_failure : SetInitFault → Bool
+is_failure (Refused told) = false
+is_failure (Failed dimm) = true
+is_failure Memory = false
+
 abbrev pub is_init_failed : {T : Type 0} → Result T SetInitFault → Bool
 is_init_failed (Ok value) = false
-is_init_failed (Err (Refused state)) = false
-is_init_failed (Err (Failed dimm)) = true
-is_init_failed (Err Memory) = false
+is_init_failed (Err fault) = is_failure fault
 
 -- a fact of the state that a refusal tells
-abbrev pub IfRefused : {T : Type 0} → Result T SetInitFault → (AreaState → Type 0) → Type 0
-IfRefused (Ok value) fact = Unit {0}
-IfRefused (Err (Refused state)) fact = fact state
-IfRefused (Err (Failed dimm)) fact = Unit {0}
-IfRefused (Err Memory) fact = Unit {0}
+abbrev pub Refuses : (AreaState → Type 0) → SetInitFault → Type 0
+Refuses fact (Refused told) = fact told
+Refuses fact (Failed dimm) = Unit {0}
+Refuses fact Memory = Unit {0}
 
 -- a fact where the area is refused, or memory
-abbrev pub OnRefusal : {T : Type 0} → Result T SetInitFault → Type 0 → Type 0
-OnRefusal (Ok value) fact = Unit {0}
-OnRefusal (Err (Refused state)) fact = fact
-OnRefusal (Err (Failed dimm)) fact = Unit {0}
-OnRefusal (Err Memory) fact = fact
+abbrev pub UnlessFailed : Type 0 → SetInitFault → Type 0
+UnlessFailed fact (Refused told) = fact
+UnlessFailed fact (Failed dimm) = Unit {0}
+UnlessFailed fact Memory = fact
 
--- a failure names the module
-abbrev pub NamesModule : {T : Type 0} → ℕ → Result T SetInitFault → Type 0
-NamesModule dimm (Ok value) = Unit {0}
-NamesModule dimm (Err (Refused state)) = Unit {0}
-NamesModule dimm (Err (Failed named)) = named ≡ dimm
-NamesModule dimm (Err Memory) = Unit {0}
+-- a failure names the module with this device handle
+abbrev pub NamesModule : ℕ → SetInitFault → Type 0
+NamesModule dimm (Refused told) = Unit {0}
+NamesModule dimm (Failed named) = named ≡ dimm
+NamesModule dimm Memory = Unit {0}
 
 -- the number of slots of an area of some size
 abbrev pub slots_by_size : Option ℕ → ℕ

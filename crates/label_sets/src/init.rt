@@ -24,7 +24,7 @@ ghost use Rattle.module_flips.specs.Stored.{StandsIn};
 ghost use Rattle.module_flips.specs.Stops.{IsOneOf, LeftIn};
 ghost use Rattle.label_sets.specs.Kept.{AllFree};
 ghost use Rattle.label_sets.specs.Room.{HasSlotsWithin};
-ghost use Rattle.label_sets.specs.Init.{IfRefused, IsInitialisedTo, NamesModule, OnRefusal, fault_by, is_init_failed};
+ghost use Rattle.label_sets.specs.Init.{IsInitialisedTo, NamesModule, Refuses, UnlessFailed, fault_by, is_failure, is_init_failed};
 ghost use Rattle.label_sets.specs.Init.{initialised_state, refused_state, slots_at, state_at, uninit_size, vacant_module};
 ghost use Rattle.label_sets.specs.Sets.{platform_in, state_in};
 ghost use Rattle.label_sets.specs.Sets as sets;
@@ -92,9 +92,9 @@ impl Sets {
         ensures room { OnOk result (self.new.room ≡ false) }
         ensures dimms { map dimm_of self.new.modules ≡ map dimm_of self.old.modules }
         ensures sizes { map size_in self.new.modules ≡ map size_in self.old.modules }
-        ensures not_uninit { IfRefused result (λ told. told ≢ state.Uninit) }
+        ensures not_uninit { IfErr result (Refuses (λ told. told ≢ state.Uninit)) }
         ensures refused { IsTold R.Shown rig.old → All (StandsIn (R.areas rig.old)) self.old.modules
-            → IfRefused result (λ told. state_at self.old dimm ≡ Some told) }
+            → IfErr result (Refuses (λ told. state_at self.old dimm ≡ Some told)) }
         ensures stands { IsTold R.Shown rig.old → All (StandsIn (R.areas rig.old)) self.old.modules
             → is_init_failed result ≡ false → All (StandsIn (R.areas rig.new)) self.new.modules }
         ensures any_moment { IsTold R.Shown rig.old → All (StandsIn (R.areas rig.old)) self.old.modules
@@ -103,18 +103,20 @@ impl Sets {
             ⊎ (state (platform_in self.old) labels
             ≡ initialised_state (platform_in self.old) dimm (slots_at self.old dimm) (state_in self.old)))) }
         ensures writes_only { WritesTo dimm R.Shown rig.old rig.new }
-        ensures reads_only { OnRefusal result (Reads R.Shown rig.old rig.new) }
+        ensures reads_only { IfErr result (UnlessFailed (Reads R.Shown rig.old rig.new)) }
         ensures cause { FailsAt dimm R.Shown rig.old rig.new (is_init_failed result) }
-        ensures names { NamesModule dimm result }
+        ensures names { IfErr result (NamesModule dimm) }
     {
         let seat = seat_in(&self.modules, dimm);
         let Some(size) = uninit_size(&self.modules[seat]) else {
             return Err(self.refusal(alloc, rig, &self.modules[seat]));
         };
-        let vacant = match Area::vacant(alloc, dimm, size) {
-            Ok(Some(vacant)) => vacant,
-            Ok(None) => return Err(SetInitFault::Refused(AreaState::WrongSize)),
+        let found = match Area::vacant(alloc, dimm, size) {
+            Ok(found) => found,
             Err(_) => return Err(SetInitFault::Memory),
+        };
+        let Some(vacant) = found else {
+            return Err(SetInitFault::Refused(AreaState::WrongSize));
         };
         let slots = vacant.slots();
         match init_at(
@@ -140,13 +142,12 @@ impl Sets {
     /// Why the area of a module isn't initialised of which an area is kept that is not Uninit.
     fn refusal<R: Rig>(&self, alloc: Global, rig: &mut R, kept: &LoadedModule) -> SetInitFault
         requires { uninit_size kept.now.area ≡ None }
-        ensures not_uninit { IfRefused {T = LoadedModule} (Err result) (λ told. told ≢ state.Uninit) }
+        ensures not_uninit { Refuses (λ told. told ≢ state.Uninit) result }
         ensures refused { IsTold R.Shown rig.old → StandsIn (R.areas rig.old) kept.now
-            → IfRefused {T = LoadedModule} (Err result)
-            (λ told. told ≡ area_state (platform_in self.now) (sets.labels_in self.now) kept.now) }
+            → Refuses (λ told. told ≡ area_state (platform_in self.now) (sets.labels_in self.now) kept.now) result }
         ensures reads_only { Reads R.Shown rig.old rig.new }
-        ensures cause { FailsAt kept.now.dimm R.Shown rig.old rig.new (is_init_failed {T = LoadedModule} (Err result)) }
-        ensures names { NamesModule {T = LoadedModule} kept.now.dimm (Err result) }
+        ensures cause { FailsAt kept.now.dimm R.Shown rig.old rig.new (is_failure result) }
+        ensures names { NamesModule kept.now.dimm result }
     {
         match load_module(alloc, rig, kept.dimm) {
             Ok(read) => SetInitFault::Refused(self.refused_state(kept, &read)),
@@ -223,9 +224,9 @@ fn init_at<R: Rig>(
     ensures slots { IfOk result (λ lists. All (HasSlotsWithin (vec_capacity lists.slots)) modules.new) }
     ensures lost { IfOk result (λ lists. All (HasSlotsWithin (vec_capacity lists.lost)) modules.new) }
     ensures kept { OnErr result (modules.new ≡ modules.old) }
-    ensures not_uninit { IfRefused result (λ told. told ≢ state.Uninit) }
+    ensures not_uninit { IfErr result (Refuses (λ told. told ≢ state.Uninit)) }
     ensures told { IsTold R.Shown rig.old → All (StandsIn (R.areas rig.old)) modules.old
-        → IfRefused result (λ told. ⊥) }
+        → IfErr result (Refuses (λ told. ⊥)) }
     ensures stands { IsTold R.Shown rig.old → All (StandsIn (R.areas rig.old)) modules.old
         → OnOk result (All (StandsIn (R.areas rig.new)) modules.new) }
     ensures any_moment { IsTold R.Shown rig.old → All (StandsIn (R.areas rig.old)) modules.old
@@ -233,9 +234,9 @@ fn init_at<R: Rig>(
         (IsOneOf (labels_in modules.old)
         (with_module vacant.dimm (vacant_module vacant.geometry.slots) (labels_in modules.old)))) }
     ensures writes_only { WritesTo vacant.dimm R.Shown rig.old rig.new }
-    ensures reads_only { OnRefusal result (Reads R.Shown rig.old rig.new) }
+    ensures reads_only { IfErr result (UnlessFailed (Reads R.Shown rig.old rig.new)) }
     ensures cause { FailsAt vacant.dimm R.Shown rig.old rig.new (is_init_failed result) }
-    ensures names { NamesModule vacant.dimm result }
+    ensures names { IfErr result (NamesModule vacant.dimm) }
 {
     let dimm = vacant.dimm();
     let slots = vacant.slots();
@@ -269,16 +270,16 @@ fn init_over<R: Rig>(
     ensures free { IfOk result (λ lists. AllFree modules.now regions.now lists.free.items) }
     ensures slots { IfOk result (λ lists. All (HasSlotsWithin (vec_capacity lists.slots)) modules.now) }
     ensures lost { IfOk result (λ lists. All (HasSlotsWithin (vec_capacity lists.lost)) modules.now) }
-    ensures not_uninit { IfRefused result (λ told. told ≢ state.Uninit) }
+    ensures not_uninit { IfErr result (Refuses (λ told. told ≢ state.Uninit)) }
     ensures told { IsTold R.Shown rig.old
-        → IfRefused result (λ told. area_kind (get (R.areas rig.old) dimm) ≢ kind.Uninit) }
+        → IfErr result (Refuses (λ told. area_kind (get (R.areas rig.old) dimm) ≢ kind.Uninit)) }
     ensures written { IsTold R.Shown rig.old → OnOk result (R.areas rig.new ≡ initialised dimm (R.areas rig.old)) }
     ensures any_moment { IsTold R.Shown rig.old
         → LeavesOnly R.Shown rig.old rig.new (LeftByInit (R.areas rig.old) (R.said rig.old) dimm) }
     ensures writes_only { WritesTo dimm R.Shown rig.old rig.new }
-    ensures reads_only { OnRefusal result (Reads R.Shown rig.old rig.new) }
+    ensures reads_only { IfErr result (UnlessFailed (Reads R.Shown rig.old rig.new)) }
     ensures cause { FailsAt dimm R.Shown rig.old rig.new (is_init_failed result) }
-    ensures names { NamesModule dimm result }
+    ensures names { IfErr result (NamesModule dimm) }
 {
     let lists = match lists_over(alloc, modules, regions) {
         Ok(lists) => lists,

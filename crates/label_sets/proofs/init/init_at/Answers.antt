@@ -1,4 +1,4 @@
-use Rattle.std.proofs.Common.{◌≡◌, ℕ, List, get_or, set, sym, subst, ◌∙◌}
+use Rattle.std.proofs.Common.{◌≡◌, ◌≢◌, ℕ, List, get_or, set, sym, subst, ◌∙◌}
 use Rattle.std.specs.FinMap.{get}
 use Rattle.std.specs.List.{All}
 use Rattle.rig_trait.specs.Areas.{Areas, OthersKept}
@@ -64,7 +64,8 @@ returns-in-Err-clause-told g c = λ told all.
     let areas : Areas = g.R.Shown.areas c.args.rig.now in
     let uninit : area_kind (get areas c.dimm-dimm.result) ≡ kind.Uninit = subst (λ h. area_kind (get areas h) ≡ kind.Uninit) (sym c.dimm-dimm.ensures)
     (was-uninit c.args.modules.now c.args.seat area.dimm c.args.size area q.within q.dimm q.uninit q.vacant q.once areas all) in
-    refused-so _ _ _ (λ s differ. differ uninit) (c.in-Err.ensures.told told)
+    let no : area_kind (get areas c.dimm-dimm.result) ≢ kind.Uninit → ⊥ = λ differ. differ uninit in
+    refused-so c.in-Err.fault (λ s. area_kind (get areas c.dimm-dimm.result) ≢ kind.Uninit) (λ s. ⊥) (λ s differ. no differ) (c.in-Err.ensures.told told)
 
 pub returns-in-Err-clause-any_moment : goal.returns-in-Err-clause-any_moment
 returns-in-Err-clause-any_moment g c = λ told all.
