@@ -28,8 +28,7 @@ use Rattle.label_area.specs.Flips.{LeftByFlip, Standing, standing_of}
 use Rattle.label_area.specs.Inits.{IsVacant, LeftByInit, initialised, layout_of, slots_of}
 use Rattle.label_area.specs.LoadedAreas.{LoadedArea}
 use Rattle.label_area.specs.Modules as stored
-use Rattle.label_area.specs.Modules.{area_kind, kind_by_layouts}
-use Rattle.label_area.specs.declared.layouts.Layouts.{Layouts}
+use Rattle.label_area.specs.Modules.{area_kind}
 use Rattle.label_area.specs.Slots.{free_bits, is_in_use}
 use Rattle.label_area.specs.VacantAreas.{IsVacantArea}
 use Rattle.label_area.proofs.Vacant.{unused}
@@ -185,25 +184,6 @@ pub unfailed : (f : SetInitFault) (P : Type 0) → UnlessFailed P f → is_failu
 unfailed (Refused s) P is e = is
 unfailed (Failed dimm) P is e = absurd cc
 unfailed Memory P is e = is
-
-abbrev layouts : Geometry → Geometry → Layouts
-layouts own old = record { own = own; old = old }
-
--- no area that is Uninit has a size that areas cannot have
-pub no-layout : (o : Option (List ℕ)) (size : ℕ) → area_kind o ≡ kind.Uninit → option_map length o ≡ Some size → geometry_of size 256 ≡ None → ⊥
-no-layout None size uninit sized none = cc
-no-layout (Some bytes) size uninit sized none =
-    wrong (ap (λ (layouts : Option Layouts). kind_by_layouts layouts bytes) (sym (none-of (geometry_of (length bytes) 256) (geometry_of (length bytes) 128) (ap (λ (n : ℕ). geometry_of n 256) (some-same (length bytes) size sized) ∙ none))) ∙ uninit)
-  where
-    some-same : (a b : ℕ) → Some a ≡ Some b → a ≡ b
-    some-same a b e = cc
-
-    none-of : (own old : Option Geometry) → own ≡ None → option_and_then (λ o. option_map (λ (l : Geometry). layouts o l) old) own ≡ None
-    none-of None old e = refl
-    none-of (Some g) old e = absurd cc
-
-    wrong : kind.WrongSize ≡ kind.Uninit → ⊥
-    wrong e = cc
 
 -- the area of the module at a seat was Uninit, and is vacant now
 module _ (ms : List LoadedModule) (seat dimm size : ℕ) (area : LoadedArea) (lt : seat < length ms) (named : (d : LoadedModule) → (get_or ms seat d).dimm ≡ dimm)

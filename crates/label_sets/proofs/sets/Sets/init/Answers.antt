@@ -29,7 +29,7 @@ use Rattle.label_sets.specs.Room.{HasRoom, HasSlotsWithin}
 use Rattle.label_sets.specs.Sets.{StoredSets, labels_in, platform_in, state_in}
 use Rattle.label_sets.specs.Sweeps.{ChangesOnly}
 use Rattle.label_sets.specs.Views.{area_state}
-use Rattle.label_sets.proofs.InitialisedSets.{had-none, initialised-with, no-layout, refused-so, settles, unfailed, slots-by, was-unready}
+use Rattle.label_sets.proofs.InitialisedSets.{had-none, initialised-with, refused-so, settles, unfailed, slots-by, was-unready}
 use Rattle.label_sets.proofs.InitSets.{init-state-left, initialised-same, none-left, reads-left, stands-here, state-here, uninit-at, uninit-is, uninit-slots, uninit-state}
 use Rattle.label_sets.proofs.Sweeping.{all-bounded}
 use Rattle.label_sets.proofs.sets.Sets.init.Goals as goal
