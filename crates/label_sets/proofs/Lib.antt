@@ -11,3 +11,6 @@ pub mod SweptSets
 pub mod InitialisedSets
 pub mod Refusals
 pub mod InitSets
+pub mod FreeAfter
+pub mod Stageable
+pub mod Written
