@@ -75,11 +75,11 @@ impl Sets {
         &mut self,
         alloc: Global,
         rig: &mut R,
-        _platform: &Platform,
+        platform: &Platform,
         dimm: u32,
     ) -> Result<u32, SetInitFault>
         requires known { IsSome (find (is_of dimm) self.old.modules) }
-        requires platform { _platform.now.regions ≡ self.old.regions }
+        requires platform { platform.now.regions ≡ self.old.regions }
         ensures slots { IfOk result (λ slots. slots ≡ slots_at self.old dimm) }
         ensures uninit { OnOk result (state_at self.old dimm ≡ Some state.Uninit) }
         ensures initialised { OnOk result (IsInitialised dimm (slots_at self.old dimm) (sets.labels_in self.old)
