@@ -89,8 +89,8 @@ uninit_size (Uninit size) = Some size
 uninit_size (Foreign size) = None
 uninit_size (Ready area) = None
 
--- How an area is refused that is of a kind, with these slots, where a state of it is kept: as it is read. An Uninit one
--- is refused for the state that is kept.
+-- How an area is refused that is of a kind, with these slots, where a state of it is kept: as it is read. An Uninit
+-- one is refused for the state that is kept.
 abbrev pub refused_by : AreaKind → ℕ → ℕ → AreaState → AreaState
 refused_by kind.Missing slots spare kept = state.Missing
 refused_by kind.WrongSize slots spare kept = state.WrongSize
@@ -112,7 +112,8 @@ fault_by dimm slots init.Failed = Failed dimm
 
 -- Modules of which one, whose area was Uninit, has a Ready area of this many slots without labels. What is kept of
 -- regions goes with them as before.
-pub record IsInitialisedTo (modules now : List LoadedModule) (regions : List RegionLabels) (dimm slots : ℕ) : Type 0 where
+pub record IsInitialisedTo (modules now : List LoadedModule) (regions : List RegionLabels)
+    (dimm slots : ℕ) : Type 0 where
   pub others : ChangesOnly dimm modules now
   pub dimms : map dimm_of now ≡ map dimm_of modules
   pub sizes : map size_in now ≡ map size_in modules

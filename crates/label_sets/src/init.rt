@@ -1,7 +1,7 @@
 //! The area of a module is initialised.
 
-ghost use Rattle.std.specs.Prelude.{◌≡◌, ◌≢◌, ◌⊎◌, ◌<◌, IfErr, IfOk, IsSome, None, OnErr, OnOk, Some, false, find, length, map};
-ghost use Rattle.std.specs.Prelude.{slice_index_or, vec_capacity};
+ghost use Rattle.std.specs.Prelude.{◌≡◌, ◌≢◌, ◌⊎◌, ◌<◌, IfErr, IfOk, IsSome, None, OnErr, OnOk, Some, false, find};
+ghost use Rattle.std.specs.Prelude.{length, map, slice_index_or, vec_capacity};
 ghost use Rattle.std.specs.FinMap.{get};
 ghost use Rattle.std.specs.List.{All};
 ghost use Rattle.view_types.specs.declared.states.AreaState.TheVariants as state;
@@ -24,8 +24,9 @@ ghost use Rattle.module_flips.specs.Stored.{StandsIn};
 ghost use Rattle.module_flips.specs.Stops.{IsOneOf, LeftIn};
 ghost use Rattle.label_sets.specs.Kept.{AllFree};
 ghost use Rattle.label_sets.specs.Room.{HasSlotsWithin};
-ghost use Rattle.label_sets.specs.Init.{IsInitialisedTo, NamesModule, Refuses, UnlessFailed, fault_by, is_failure, is_init_failed};
-ghost use Rattle.label_sets.specs.Init.{initialised_state, refused_state, slots_at, state_at, uninit_size, vacant_module};
+ghost use Rattle.label_sets.specs.Init.{IsInitialisedTo, NamesModule, Refuses, UnlessFailed, fault_by, is_failure};
+ghost use Rattle.label_sets.specs.Init.{initialised_state, is_init_failed, refused_state, slots_at, state_at};
+ghost use Rattle.label_sets.specs.Init.{uninit_size, vacant_module};
 ghost use Rattle.label_sets.specs.Sets.{platform_in, state_in};
 ghost use Rattle.label_sets.specs.Sets as sets;
 ghost use Rattle.label_sets.specs.Sweeps.{ChangesOnly};
@@ -57,8 +58,8 @@ pub enum SetInitFault {
     Memory,
 }
 
-/// What is kept beside modules and regions: the free extents of each region, and lists with the memory for all slots of
-/// any module.
+/// What is kept beside modules and regions: the free extents of each region, and lists with the memory for all slots
+/// of any module.
 #[derive(Drop)]
 struct Lists {
     free: Vec<Extents>,
@@ -256,8 +257,8 @@ fn init_at<R: Rig>(
     }
 }
 
-/// Takes the memory of what is kept beside modules and regions, and initialises the area of a module then, which has so
-/// many slots.
+/// Takes the memory of what is kept beside modules and regions, and then initialises the area of a module, which has
+/// so many slots.
 fn init_over<R: Rig>(
     alloc: Global,
     rig: &mut R,

@@ -1,6 +1,6 @@
 //! What is shown of regions and modules.
 
-ghost use Rattle.std.specs.Prelude.{◌≡◌, ◌<◌, IfOk, find, length, map, slice_index_or};
+ghost use Rattle.std.specs.Prelude.{◌≡◌, ◌<◌, IfOk, find, is_some, length, map, slice_index_or};
 ghost use Rattle.std.specs.Option.{option_copied};
 ghost use Rattle.module_labels.specs.Labels.{is_ready};
 ghost use Rattle.region_map.specs.declared.platform.Region.{Region};
@@ -84,6 +84,16 @@ impl Sets {
     {
         match self.module_of(dimm) {
             Some(loaded) => loaded.kind().is_ready(),
+            None => false,
+        }
+    }
+
+    /// Whether the platform has a module with a device handle.
+    pub fn has_module(&self, dimm: u32) -> bool
+        ensures { result ≡ is_some (find (is_of dimm) self.now.modules) }
+    {
+        match self.module_of(dimm) {
+            Some(_) => true,
             None => false,
         }
     }
