@@ -8,6 +8,9 @@ pub mod Unwanted
 pub mod Swept
 pub mod Sweeping
 pub mod SweptSets
+pub mod InitialisedSets
+pub mod Refusals
+pub mod InitSets
 pub mod FreeAfter
 pub mod Stageable
 pub mod Written

@@ -3,6 +3,7 @@
 #![tactic(auto)]
 
 mod healing;
+mod init;
 mod largest;
 mod load;
 mod lookups;
@@ -13,6 +14,7 @@ mod staging;
 mod sweep;
 mod views;
 
+pub use init::SetInitFault;
 pub use load::SetFault;
 pub use module_flips::AreaFailed;
 pub use read::read_state;

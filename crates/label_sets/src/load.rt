@@ -62,7 +62,11 @@ pub(crate) fn load_modules<R: Rig>(
     Ok(modules)
 }
 
-fn load_module<R: Rig>(alloc: Global, rig: &mut R, dimm: u32) -> Result<LoadedModule, SetFault>
+pub(crate) fn load_module<R: Rig>(
+    alloc: Global,
+    rig: &mut R,
+    dimm: u32,
+) -> Result<LoadedModule, SetFault>
     ensures stands { IsTold R.Shown rig.old → IfOk result (StandsIn (R.areas rig.old)) }
     ensures dimm { IfOk result (λ loaded. loaded.dimm ≡ dimm) }
     ensures own { IfOk result IsOwn }

@@ -68,7 +68,7 @@ fn regions_over(
 }
 
 /// The free extents of each region.
-fn free_in(
+pub(crate) fn free_in(
     alloc: Global,
     modules: &[LoadedModule],
     regions: &[RegionLabels],

@@ -74,10 +74,8 @@ impl Sets {
         ensures reads { R.reads rig.new ≡ R.reads rig.old }
     {
         self.room = false;
-        let (Some(found), Some(place)) = (
-            platform.region(region),
-            place_of(&self.regions, region),
-        ) else {
+        let (Some(found), Some(place)) = (platform.region(region), place_of(&self.regions, region))
+        else {
             unreachable!()
         };
         stage_in(

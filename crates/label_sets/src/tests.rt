@@ -1,4 +1,4 @@
-ghost use Rattle.std.specs.Prelude.{IfOk};
+ghost use Rattle.std.specs.Prelude.{◌≡◌, IfOk};
 ghost use Rattle.region_map.specs.Platforms.{IsSound};
 
 use super::*;
@@ -500,6 +500,72 @@ fn free_after_sweep(alloc: Global, labels: &[Stored]) -> Result<u32, &'static st
         Ok(area) => Ok(area.free_count()),
         Err(_) => Err("no area"),
     }
+}
+
+/// Labels of the first module, and what is shown once the area of the second one is initialised: a label that was held
+/// may be dead then.
+const INITIALISED: [(&[Stored], RegionRow, [ModuleRow; 2]); 2] = [
+    (
+        &[Label(0x13, 0, 0, 2 * MIB, UPDATING)],
+        ALL_FREE,
+        [NONE_HELD, NONE_HELD],
+    ),
+    (
+        &[Label(0x13, 0, 0, 2 * MIB, 0)],
+        HELD,
+        [ONE_HELD, NONE_HELD],
+    ),
+];
+
+#[test]
+fn initialises(rt: HostRuntime) -> Result<(), Fail> {
+    for (labels, region, modules) in INITIALISED {
+        initialises_second(&rt, rt.alloc(), labels, &region, &modules)?;
+    }
+    Ok(())
+}
+
+fn initialises_second(
+    rt: &impl Abort,
+    alloc: Global,
+    labels: &[Stored],
+    region: &RegionRow,
+    modules: &[ModuleRow; 2],
+) -> Result<(), Fail> {
+    let platform = platform(alloc)?;
+    let mut rig = rig_of(alloc, labels, None)?;
+    rig.add(0x101, vec![in alloc; 0; 4096]?)?;
+    let mut sets = match read_state(alloc, &platform, &mut rig) {
+        Ok(sets) => sets,
+        Err(_) => return Err(Fail::from("no state")),
+    };
+    assert_eq!(rt; init_second(alloc, &mut rig, &platform, &mut sets)?, Ok(14));
+    shows_all(rt, alloc, &sets, region, modules)?;
+    let ready = SetInitFault::Refused(AreaState::Ready {
+        slots: 14,
+        spare: 14,
+    });
+    assert_eq!(rt;
+        init_second(alloc, &mut rig, &platform, &mut sets)?,
+        Err(ready)
+    );
+    Ok(())
+}
+
+/// Initialises the area of the second module.
+fn init_second(
+    alloc: Global,
+    rig: &mut MemoryRig,
+    platform: &Platform,
+    sets: &mut Sets,
+) -> Result<Result<u32, SetInitFault>, &'static str>
+    requires { platform.now.regions ≡ sets.old.regions }
+    ensures { sets.new.regions ≡ sets.old.regions }
+{
+    if !sets.has_module(0x101) {
+        return Err("there is no second module");
+    }
+    Ok(sets.init(alloc, rig, platform, 0x101))
 }
 
 /// A call that fails names its module.

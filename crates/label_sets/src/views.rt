@@ -1,6 +1,6 @@
 //! What is shown of regions and modules.
 
-ghost use Rattle.std.specs.Prelude.{◌≡◌, ◌<◌, IfOk, find, length, map, slice_index_or};
+ghost use Rattle.std.specs.Prelude.{◌≡◌, ◌<◌, IfOk, find, is_some, length, map, slice_index_or};
 ghost use Rattle.std.specs.Option.{option_copied};
 ghost use Rattle.module_labels.specs.Labels.{is_ready};
 ghost use Rattle.region_map.specs.declared.platform.Region.{Region};
@@ -88,6 +88,16 @@ impl Sets {
         }
     }
 
+    /// Whether the platform has a module with a device handle.
+    pub fn has_module(&self, dimm: u32) -> bool
+        ensures { result ≡ is_some (find (is_of dimm) self.now.modules) }
+    {
+        match self.module_of(dimm) {
+            Some(_) => true,
+            None => false,
+        }
+    }
+
     fn module_of(&self, dimm: u32) -> Option<&LoadedModule>
         ensures { option_copied result ≡ find (is_of dimm) self.now.modules }
     {
@@ -95,7 +105,7 @@ impl Sets {
     }
 
     /// The state of a module's area.
-    fn state_of(&self, loaded: &LoadedModule) -> AreaState
+    pub(crate) fn state_of(&self, loaded: &LoadedModule) -> AreaState
         ensures { result ≡ area_state (platform_in self.now) (labels_in self.now) loaded.now }
     {
         match loaded.kind() {

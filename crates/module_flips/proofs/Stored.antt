@@ -30,7 +30,7 @@ use Rattle.module_flips.specs.Flips.{HasLabelsInUse, IsAreaOf, IsSizedIn}
 use Rattle.module_flips.specs.Stored.{StandsIn, StoredAs}
 
 -- an area that is not Ready has no labels
-no_block : (bytes : List ℕ) → area_kind (Some bytes) ≢ kind.Ready → current_block (Some bytes) ≡ None
+pub no_block : (bytes : List ℕ) → area_kind (Some bytes) ≢ kind.Ready → current_block (Some bytes) ≡ None
 no_block bytes differ = by (geometry_of (length bytes) 256) refl
   where
     by : (o : Option Geometry) → geometry_of (length bytes) 256 ≡ o → current_block (Some bytes) ≡ None
