@@ -1,6 +1,6 @@
 #!/usr/bin/env python3
-"""Compares the commands that change areas with the model of the step, on images made at random: the reply of each, and then
-every list.
+"""Compares the commands that change areas with the model of the step, on images made at random: the reply of each, and
+every list after it.
 
     python3 end_to_end/check_steps.py [COUNT] [SEED] [PROGRAM]
 """
@@ -11,9 +11,12 @@ import tempfile
 from pathlib import Path
 
 from check_lists import ROOT, run
-from check_random import image, questions
-from platform_images import write
-from step_model import any_command, create_namespace, destroy_namespace, init_labels, release_held
+from check_random import SIZES, image, questions
+from platform_images import area, slot_count, write
+from step_model import create_namespace, destroy_namespace, init_labels, release_held
+from step_rows import any_command, calmed
+
+SLOTS = {slot_count(size): size for size in SIZES}
 
 
 def line_of(command, words: tuple) -> str:
@@ -40,18 +43,23 @@ def main() -> int:
         for number in range(count):
             chance = random.Random(first * 1_000_003 + number)
             table, areas, model = image(chance)
+            if number % 4:
+                model = calmed(model)
+                areas = {handle: area(SLOTS[module.slots], module.labels) for handle, module in model.modules.items()}
             folder = Path(scratch, str(number))
             write(folder, table, areas)
             for _ in range(12):
                 command, words = any_command(chance, model)
                 model, text = command(model, *words)
                 accepted += text.startswith("ok")
-                for line, wanted in [(line_of(command, words), text)] + (questions(model) if text.startswith("ok") else []):
+                asked = questions(model) if text.startswith("ok") else []
+                for line, wanted in [(line_of(command, words), text), *asked]:
                     rows += 1
                     answer = run(program, folder, line)
                     if answer != (int(wanted.startswith("refused")), wanted):
                         wrong += 1
-                        print(f"image {number} of seed {first}: {line}\n  model   {wanted!r:.2000}\n  program {answer!r:.2000}")
+                        print(f"image {number} of seed {first}: {line}")
+                        print(f"  model   {wanted!r:.2000}\n  program {answer!r:.2000}")
                 if wrong > 20:
                     return 1
     print(f"{rows} replies on {count} images, with {accepted} changes: {wrong} wrong")
