@@ -45,7 +45,9 @@ def main() -> int:
             table, areas, model = image(chance)
             if number % 4:
                 model = calmed(model)
-                areas = {handle: area(SLOTS[module.slots], module.labels) for handle, module in model.modules.items()}
+                for handle, module in model.modules.items():
+                    size = SLOTS[module.slots]
+                    areas[handle] = area(size, module.labels) if module.state == "ready" else bytes(size)
             folder = Path(scratch, str(number))
             write(folder, table, areas)
             for _ in range(12):

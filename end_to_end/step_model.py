@@ -1,5 +1,5 @@
 #!/usr/bin/env python3
-"""What the commands that change label storage areas make of a table, as a plain model: refusals in order, changes, replies.
+"""What the commands that change areas make of a table, as a plain model: refusals in their order, changes, replies.
 
 Each command takes a table and gives the table afterwards, which is the same one where it is refused, and its reply. Only
 how many slots a module has matters here, and not which of them a label is in. Junk is in no table.
@@ -97,7 +97,7 @@ def recovered(table: Table, region: Region) -> Table:
 
 
 def region_refusal(table: Table, index: int) -> str:
-    """The first refusal of a change of a region, before those of its command: unknown, unusable, not Ready, unhealed."""
+    """The first refusal of a change of a region before its command's: unknown, unusable, not Ready, unhealed."""
     region = region_at(table, index)
     if region is None:
         return f"refused unknown-region region={index}\n"

@@ -1,6 +1,6 @@
-"""Rows of the model of the step: tables made by hand, whose replies are worked out from the rules, and tables made at random,
-where what a command makes of the labels must be what the rules say of the namespaces, the held labels and the spare slots
-alone.
+"""Rows of the model of the step: tables made by hand, whose replies are worked out from the rules, and tables made at
+random, where what a command makes of the labels must be what the rules say of the namespaces, the held labels and the
+spare slots alone.
 
     python3 end_to_end/step_model.py [COUNT]
 """
@@ -11,8 +11,8 @@ from dataclasses import replace
 
 from platform_images import LOCAL, MIB, ROLABEL, UPDATING, Label, Mapping, Region
 from step_model import (
-    ABSTRACTIONS, create_namespace, destroy_namespace, init_labels, is_name, is_pending, name_of, own_uuid, region_at, release_held,
-    rename_namespace, without,
+    ABSTRACTIONS, create_namespace, destroy_namespace, init_labels, is_name, is_pending, name_of, own_uuid, region_at,
+    release_held, rename_namespace, without,
 )
 from table_model import Module, Table
 
@@ -240,12 +240,13 @@ def half_created(checked: Checked) -> None:
     missing = "refused not-ready missing dimm=0x00000101"
     checked.lists(alone, missing + "\n")
     checked.holds(alone, FIRST, held(U1, 2 * MIB, "yes") + "ok held=1 spare=509\n")
-    checked.steps(alone, (release(U1), missing), (release(U1, SECOND), missing), (release(U1, 9), "refused unknown-dimm dimm=0x00000009"))
+    unknown = "refused unknown-dimm dimm=0x00000009"
+    checked.steps(alone, (release(U1), missing), (release(U1, SECOND), missing), (release(U1, 9), unknown))
 
 
 def pending(checked: Checked) -> None:
-    """A create that stands, a rename of which only the first label is done, and a first label that is longer. An accepted
-    change of the region finishes them."""
+    """A create that stands, a rename of which only the first label is done, and a first label that is longer. An
+    accepted change of the region finishes them."""
     first, second = map(list, zip(pair(U1, 0, 2 * MIB, flags=UPDATING), pair(U2, 2 * MIB, 2 * MIB)))
     table = two_modules(first=first, second=second)
     other, third = space(U2, 2 * MIB, 2 * MIB), space(U3, 4 * MIB, 2 * MIB)
@@ -266,8 +267,9 @@ def pending(checked: Checked) -> None:
     )
     checked.says("the names of U1", [after.with_uuid(handle, U1)[0].name for handle in (FIRST, SECOND)], [b"b", b"b"])
     first = pair(U1, 0, 4 * MIB, flags=UPDATING)[0]
-    after = checked.steps(two_modules(first=[first], second=[second]), (rename(U1, b"c"), f"ok renamed uuid={U1} name=c"))
-    checked.says("the lengths of U1", [after.with_uuid(handle, U1)[0].size for handle in (FIRST, SECOND)], [4 * MIB, 4 * MIB])
+    table = two_modules(first=[first], second=[second])
+    after = checked.steps(table, (rename(U1, b"c"), f"ok renamed uuid={U1} name=c"))
+    checked.says("the lengths of U1", [after.with_uuid(handle, U1)[0].size for handle in (FIRST, SECOND)], [4 * MIB] * 2)
 
 
 def releases(checked: Checked) -> None:
@@ -423,6 +425,9 @@ def any_command(chance: random.Random, table: Table) -> tuple:
     key = chance.choice([number, "db0", "none"] + [own for _, own, _, _ in spaces] * 4)
     size = MIB * len(region.mappings) * chance.choice((1, 2, 2, 2, 4, 8, 16, 32))
     mode, sector = chance.choice(list(ABSTRACTIONS)), chance.choice((512, 4096))
+    empty = [handle for handle, module in sorted(table.modules.items()) if module.state == "uninit"]
+    if empty and chance.random() < 0.4:
+        return init_labels, (chance.choice(empty),)
     return chance.choice((
         (init_labels, (handle,)), (release_held, (handle, number)), (destroy_namespace, (region.index, key)),
         (rename_namespace, (region.index, key, name)),
@@ -431,14 +436,14 @@ def any_command(chance: random.Random, table: Table) -> tuple:
 
 
 def calmed(table: Table) -> Table:
-    """The table where each module is Ready and no two namespaces overlap."""
+    """The table where each module has an area that can be used, and no two namespaces overlap."""
     modules = {
-        handle: module if module.state == "ready" else Module("ready", max(module.slots, 2))
+        handle: module if module.state == "ready" else Module("uninit", max(module.slots, 2))
         for handle, module in table.modules.items()
     }
     table = Table(table.regions, modules)
     for region in table.regions:
-        while not table.rule(region) and table.cause(region):
+        while not table.rule(region) and "clash" in table.cause(region):
             table = without(table, region, table.cause(region).split("second=")[1])
     return table
 
@@ -467,7 +472,8 @@ def at_random(checked: Checked, count: int) -> dict:
 def main() -> int:
     checked = Checked()
     for look in (
-        creates, places, few_slots, names, foreign_names, orders, half_created, pending, releases, released_twins, initialises,
+        creates, places, few_slots, names, foreign_names, orders, half_created, pending, releases, released_twins,
+        initialises,
     ):
         look(checked)
     # The first 16 bytes that sha1sum gives of 16 zero bytes and the digit 1, with the version and the variant set.
