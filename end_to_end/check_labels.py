@@ -1,6 +1,6 @@
 #!/usr/bin/env python3
 """Runs the listing of labels, the initialisation of areas and the translation of addresses on files made by hand, and
-compares what is said and the areas that are left, byte by byte.
+compares what is said and the areas that are left, byte by byte. Some of the files cannot be read.
 
     python3 end_to_end/check_labels.py [PROGRAM]
 """
@@ -49,6 +49,13 @@ def torn(text: bytes) -> bytes:
 NEW = block(False, 3, ALL_FREE) + block(True, 2, ALL_FREE)
 
 
+def with_fields(text: bytes, fields: dict) -> bytes:
+    """An index block, and bytes behind it up to its size, with other bytes at some offsets and the checksum of them all."""
+    for at, field in fields.items():
+        text = text[:at] + field + text[at + len(field):]
+    return text[:64] + struct.pack("<Q", fletcher64(text[:64] + bytes(8) + text[72:])) + text[72:]
+
+
 def line_of(label: Label, slot: int, name: str) -> str:
     return (f"  slot={slot} uuid={label.uuid} name={name} flags=0x{label.flags:08x} nlabel={label.nlabel}"
             f" position={label.position} cookie=0x{label.cookie:016x} dpa=0x{label.dpa:016x} size={label.size}\n")
@@ -69,6 +76,26 @@ def other_blocks():
         (second, first, FOREIGN), (old, ZEROS, FOREIGN), (torn(old), ZEROS, UNINIT), (old, second, SECOND), (ZEROS, ZEROS, UNINIT),
     ):
         yield one + other + FREE + FREE, "labels 1", int(text.startswith("refused")), text
+
+
+def block_of_512():
+    """A first block that tells 512 bytes is signed where the checksum is that of 512 bytes, and not usable."""
+    told = with_fields(block(False, 3, ALL_FREE) + b"\xff" * 256, {32: struct.pack("<Q", 512)})
+    assert told[64:72] == (0x3422_8047_D832_3AF3).to_bytes(8, "little")
+    yield told + FREE + FREE, "labels 1", 1, FOREIGN
+    yield told[:511] + b"\0" + FREE + FREE, "labels 1", 1, UNINIT
+    yield told[:64] + block(False, 3, ALL_FREE)[64:72] + told[72:] + FREE + FREE, "labels 1", 1, UNINIT
+    yield block(False, 3, ALL_FREE) + b"\xff" * 768, "labels 1", 0, EMPTY
+
+
+def last_byte_of_a_bitmap():
+    """Areas of 3,328 bytes have eleven slots: three bits of the second byte, and five that are not looked at."""
+    start = index_block(3328, 0, 3, 0)
+    for bits, slot in ((b"\xff\3", 10), (b"\xff\xfb", 10), (b"\xff\5", 9), (b"\xff\6", 8), (b"\x7f\7", 7), (b"\xff\7", None)):
+        area = with_fields(start, {72: bits}) + bytes(256)
+        area += b"".join(LABEL.bytes(at) for at in range(11))
+        found = "" if slot is None else line_of(LABEL, slot, "db0")
+        yield area, "labels 1", 0, f"{found}ok labels={int(slot is not None)} slots=11 seq=3 place=0\n"
 
 
 def names():
@@ -144,6 +171,63 @@ def tables():
         yield table, status, f"error {text}\n"
 
 
+# The size of an area, the offset of a sound index block of version 1.1 in it, its kind, and its slots once it is
+# initialised. The blocks for labels of 256 bytes have 256 bytes up to 262,144, and 768 at 1,048,576. Those for labels of
+# 128 have 256 at 1,024, 512 at 196,608 and 262,144, and 1,280 at 1,048,576.
+SIZES = (
+    (768, 0, "wrong-size", None), (1000, 0, "wrong-size", None), (1_048_832, 0, "wrong-size", None),
+    (1024, 256, "foreign", None), (1024, 512, "uninit", 2), (196_608, 256, "foreign", None), (196_608, 512, "foreign", None),
+    (196_608, 768, "uninit", 766), (262_144, 0, "foreign", None), (262_144, 768, "uninit", 1022),
+    (1_048_576, 768, "foreign", None), (1_048_576, 1280, "foreign", None), (1_048_576, 256, "uninit", 4090),
+)
+
+
+def sizes():
+    """Areas before and after they are initialised, and the areas that are left."""
+    for size, at, kind, slots_ in SIZES:
+        old = block(True, 1, 0, True)
+        before = bytes(at) + old + bytes(size - at - len(old))
+        refused = f"refused not-ready {kind} dimm=0x00000001\n"
+        yield before, "labels 1", 1, refused, before
+        if slots_ is None:
+            yield before, ["do", "init-labels dimm=1"], 1, refused, before
+            continue
+        blocks = index_block(size, 0, 3, 0) + index_block(size, 1, 2, 0)
+        after = blocks + before[len(blocks):]
+        yield before, ["do", "init-labels dimm=1"], 0, f"ok initialised dimm=0x00000001 slots={slots_}\n", after
+        yield after, "labels 1", 0, f"ok labels=0 slots={slots_} seq=3 place=0\n", after
+
+
+def unread(program: str, folder: Path):
+    """Files that are missing or cannot be read: the words, and what is said. Nothing is made in their places."""
+    area = NEW + FREE + FREE
+    write(folder, TABLE, {1: area})
+    first, second, table = (folder / name for name in ("dimm-00000001.lsa", "dimm-00000101.lsa", "nfit.bin"))
+    missing = "refused not-ready missing dimm=0x00000101\n"
+    failed = "error area dimm=0x{:08x}\n"
+    absent = folder / "absent"
+    yield run(program, absent, "labels 1"), (1, missing.replace("101", "001"))
+    yield run(program, absent, ["do", "# x"]), (5, "error source nfit\n")
+    yield run(program, first, "labels 1"), (4, failed.format(1))
+    yield run(program, first, ["do", "# x"]), (5, "error source nfit\n")
+    yield run(program, folder, "labels 0x101"), (1, missing)
+    yield run(program, folder, ["do", "init-labels dimm=0x101"]), (1, missing)
+    yield absent.exists() or second.exists(), False
+    for make in (lambda path: path.mkdir(), lambda path: path.symlink_to("/dev/null")):
+        make(second)
+        for words in ("labels 257", ["do", "init-labels dimm=257"], ["do", "list-regions"], ["do", "list"], ["do", "list-held dimm=257"]):
+            yield run(program, folder, words), (4, failed.format(257))
+        second.rmdir() if second.is_dir() else second.unlink()
+        table.unlink()
+        yield run(program, folder, ["do", "list"]), (5, "error source nfit\n")
+        make(table)
+        yield run(program, folder, ["do", "list"]), (5, "error source nfit\n")
+        yield run(program, folder, "labels 1"), (0, EMPTY)
+        table.rmdir() if table.is_dir() else table.unlink()
+        table.write_bytes(TABLE)
+    yield first.read_bytes(), area
+
+
 def run(program: str, folder: Path, words) -> tuple:
     words = words.split() if isinstance(words, str) else words
     done = subprocess.run([program, words[0], str(folder), *words[1:]] if len(words) > 1 else [program, *words],
@@ -170,7 +254,7 @@ def main() -> int:
     program = sys.argv[1] if len(sys.argv) > 1 else str(ROOT / "crates/nd_cli/out/nd_cli")
     with tempfile.TemporaryDirectory() as scratch:
         rows = Rows(program, Path(scratch, "image"))
-        for build in (sequences, other_blocks, names, slots, words_and_sizes, lines):
+        for build in (sequences, other_blocks, block_of_512, last_byte_of_a_bitmap, names, slots, words_and_sizes, lines):
             for area, words, status, text in build():
                 rows.row(TABLE, area, words, status, text, area)
         initialise, done = ["do", "init-labels dimm=1"], "ok initialised dimm=0x00000001 slots={}\n"
@@ -179,6 +263,13 @@ def main() -> int:
         for size, blocks, slots_ in ((1024, NEW, 2), (1 << 20, index_block(1 << 20, 0, 3, 0) + index_block(1 << 20, 1, 2, 0), 4090)):
             old = b"\xee" * size
             rows.row(TABLE, old, initialise, 0, done.format(slots_), blocks + old[len(blocks):])
+        for area, words, status, text, left in sizes():
+            rows.row(TABLE, area, words, status, text, left)
+        for answer, expected in unread(program, Path(scratch, "unread")):
+            rows.rows += 1
+            if answer != expected:
+                rows.wrong += 1
+                print(f"unread file\n  expected {expected!r:.2000}\n  answered {answer!r:.2000}")
         rows.row(TABLE, NEW + FREE + FREE, initialise, 1, "refused already-ready dimm=0x00000001\n", NEW + FREE + FREE)
     print(f"{rows.rows} rows, {rows.wrong} wrong")
     return 1 if rows.wrong or not rows.rows else 0

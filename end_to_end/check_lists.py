@@ -214,6 +214,29 @@ def doubled():
     ]
 
 
+def held_ranges():
+    """Ranges that held labels take from a region of one module, and the extents that are left."""
+    edge = 1 << 63
+    for size, ranges, left in (
+        (100, [], [(0, 100)]), (100, [(0, 10)], [(10, 90)]), (100, [(90, 10)], [(0, 90)]), (100, [(90, 20)], [(0, 90)]),
+        (100, [(100, 1)], [(0, 100)]), (100, [(30, 0)], [(0, 100)]), (100, [(0, 100)], []), (100, [(0, (1 << 64) - 1)], []),
+        (100, [(40, 10), (10, 10)], [(0, 10), (20, 20), (50, 50)]), (100, [(40, 20), (10, 40)], [(0, 10), (60, 40)]),
+        (100, [(10, 50), (20, 0), (20, 10)], [(0, 10), (60, 40)]), (100, [(20, 10), (20, 10)], [(0, 20), (30, 70)]),
+        (100, [(30, 10), (20, 10)], [(0, 20), (40, 60)]), (100, [(10, 10), (30, 10)], [(0, 10), (20, 10), (40, 60)]),
+        (100, [(0, 50), (50, 50)], []), (edge, [(2 * edge - 1, 2 * edge - 1), (edge - 9, 20)], [(0, edge - 9)]),
+    ):
+        lone = Region(1, 0, [Mapping(FIRST, 1, size)])
+        labels = [Label(uuid(at), start, length, 7) for at, (start, length) in enumerate(ranges)]
+        largest = edge - 2 * MIB if size == edge else 0
+        yield (nfit([lone]), {FIRST: area(SIZE, labels)}), [("list-free region=1", 0, free(*left, largest=largest))]
+    for start, largest in ((2 * MIB, 4), (2 * MIB + 1, 2), (2 * MIB - 1, 4), (1, 4)):
+        lone = Region(1, 0, [Mapping(FIRST, 1, 7 * MIB)])
+        labels = [Label(U1, 0, start, 7)]
+        yield (nfit([lone]), {FIRST: area(SIZE, labels)}), [
+            ("list-free region=1", 0, free((start, 7 * MIB - start), largest=largest * MIB)),
+        ]
+
+
 def unusable():
     """A region whose members' parts have other sizes than its range, and a label that names it."""
     broken = replace(PAIR, length=4 * PART)
@@ -272,8 +295,8 @@ def largest_areas():
 
 
 IMAGES = [
-    empty_pair, namespaces, stopped_create, replaced_module, missing_member, clash, foreign_labels, doubled, unusable, shared_module,
-    states, largest_areas,
+    empty_pair, namespaces, stopped_create, replaced_module, missing_member, clash, foreign_labels, doubled, held_ranges, unusable,
+    shared_module, states, largest_areas,
 ]
 
 

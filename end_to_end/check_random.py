@@ -87,7 +87,7 @@ def image(chance: random.Random) -> tuple:
         chance.shuffle(labels)
         labels = labels[: slot_count(size)]
         kind = chance.choice(("ready",) * 12 + ("missing", "uninit", "foreign", "wrong-size"))
-        modules[handle] = Module(kind, slot_count(size), tuple(labels)) if kind == "ready" else Module(kind)
+        modules[handle] = Module(kind, slot_count(size), tuple(labels) if kind == "ready" else ())
         areas[handle] = {
             "ready": lambda: area(size, labels), "missing": lambda: None, "uninit": lambda: bytes(size),
             "foreign": lambda: index_block(1 << 20, 0, 3, 0).ljust(size, b"\0"), "wrong-size": lambda: bytes(1000),

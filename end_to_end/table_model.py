@@ -143,6 +143,11 @@ class Table:
             at = max(at, end)
         return extents + ([(at, size - at)] if at < size else [])
 
+    def largest(self, region: Region) -> int:
+        """The size of the greatest new namespace."""
+        aligned = [(at + size) // ALIGNMENT * ALIGNMENT - -(-at // ALIGNMENT) * ALIGNMENT for at, size in self.free(region)]
+        return min(len(region.mappings) * max([0, *aligned]), GREATEST)
+
     # The replies.
 
     def refusal(self, region: Region) -> str:
@@ -187,9 +192,8 @@ class Table:
         if self.refusal(region):
             return self.refusal(region)
         extents = self.free(region)
-        aligned = [(at + size) // ALIGNMENT * ALIGNMENT - -(-at // ALIGNMENT) * ALIGNMENT for at, size in extents]
-        largest = min(len(region.mappings) * max([0, *aligned]), GREATEST)
-        return "".join(f"  free offset={at} length={size}\n" for at, size in extents) + f"ok free={len(extents)} largest={largest}\n"
+        lines = "".join(f"  free offset={at} length={size}\n" for at, size in extents)
+        return f"{lines}ok free={len(extents)} largest={self.largest(region)}\n"
 
     def list_held(self, handle: int) -> str:
         module = self.modules[handle]
