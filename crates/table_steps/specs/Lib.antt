@@ -1,0 +1,5 @@
+pub mod Refusals
+pub mod Changes
+pub mod Initialise
+pub mod Create
+pub mod Steps

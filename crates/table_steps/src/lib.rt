@@ -1,0 +1,7 @@
+//! The step of each command that changes the label storage areas, on the table that their labels stand for (UEFI 2.7,
+//! section 13.19): why it is refused, what it changes, and its reply.
+#![tactic(auto)]
+
+mod change;
+
+pub use change::{Change, NewNamespace};
