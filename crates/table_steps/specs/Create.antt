@@ -130,3 +130,10 @@ pub record Creates (platform : Platform) (labels : Labels) (asked : NewNamespace
   pub free : List Extent
   pub free_are : AreFreeOf platform labels (region_at platform asked.region) free
   pub is_done : CreatesIn platform labels free asked reply after
+
+-- Nothing refuses the command, and it is done.
+pub record Accepts (platform : Platform) (labels : Labels) (free : List Extent) (asked : NewNamespace) (reply : Reply)
+    (after : State) : Type 0 where
+  pub free_are : AreFreeOf platform labels (region_at platform asked.region) free
+  pub unrefused : first_of (create_refusals platform labels free asked) ≡ None
+  pub done : IsCreated platform labels asked reply after

@@ -1,3 +1,4 @@
+pub mod Shown
 pub mod Refusals
 pub mod Changes
 pub mod Initialise

@@ -3,5 +3,7 @@
 #![tactic(auto)]
 
 mod change;
+mod laws;
 
 pub use change::{Change, NewNamespace};
+pub use laws::{create_laws, range_laws};

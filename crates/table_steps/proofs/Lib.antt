@@ -1,0 +1,4 @@
+pub mod Lists
+pub mod Sizes
+pub mod Accepted
+pub mod Created

@@ -1,0 +1,82 @@
+//! Laws of the steps. The functions do nothing: their clauses say what holds.
+
+ghost use Rattle.std.specs.Prelude.{◌≡◌, ◌≢◌, ℕ, ◌+◌, ◌*◌, ◌%◌, ◌<◌, ◌≤◌, List, Some, false, length, true};
+ghost use Rattle.std.specs.List.{Contains};
+ghost use Rattle.view_types.specs.declared.extents.Extent.{Extent};
+ghost use Rattle.view_types.specs.declared.reply.Reply.{Reply};
+ghost use Rattle.module_labels.specs.Labels.{Labels};
+ghost use Rattle.region_map.specs.declared.platform.Member.{Member};
+ghost use Rattle.region_map.specs.declared.platform.Platform.{Platform};
+ghost use Rattle.region_map.specs.declared.platform.Region.{Region};
+ghost use Rattle.label_table.specs.Belonging.{IsDisjoint};
+ghost use Rattle.label_table.specs.Division.{alignment, is_common_free};
+ghost use Rattle.label_table.specs.Fates.{spare};
+ghost use Rattle.label_table.specs.Statuses.{RegionReady, status};
+ghost use Rattle.label_table.specs.Tables.{State, changed_at, is_member, pending_at, state, table};
+ghost use Rattle.table_steps.specs.declared.change.NewNamespace.{NewNamespace};
+ghost use Rattle.table_steps.specs.Create.{Accepts, made, part_length};
+
+/// What an accepted create makes of the table and of the pending marks.
+pub fn create_laws()
+    // The table changes at the new namespace alone.
+    ensures spaces { (platform : Platform) (labels : Labels) (free : List Extent) (asked : NewNamespace) (reply : Reply)
+        (after : State) → (accepts : Accepts platform labels free asked reply after)
+        → after.table.space ≡ changed_at accepts.done.region asked.uuid
+        (Some (made asked accepts.done.region accepts.done.offset)) (table platform labels).space }
+    ensures kinds { (platform : Platform) (labels : Labels) (free : List Extent) (asked : NewNamespace) (reply : Reply)
+        (after : State) → Accepts platform labels free asked reply after
+        → after.table.kind ≡ (table platform labels).kind }
+    ensures held { (platform : Platform) (labels : Labels) (free : List Extent) (asked : NewNamespace) (reply : Reply)
+        (after : State) → Accepts platform labels free asked reply after
+        → after.table.held ≡ (table platform labels).held }
+
+    // Each module of its region has one spare slot less, and all others have theirs.
+    ensures spares { (platform : Platform) (labels : Labels) (free : List Extent) (asked : NewNamespace) (reply : Reply)
+        (after : State) → (accepts : Accepts platform labels free asked reply after)
+        → (member : Member) → Contains accepts.done.region.members member
+        → after.table.spare member.handle + 1 ≡ spare platform labels member.handle }
+    ensures other_spares { (platform : Platform) (labels : Labels) (free : List Extent) (asked : NewNamespace)
+        (reply : Reply) (after : State) → (accepts : Accepts platform labels free asked reply after)
+        → (handle : ℕ) → is_member accepts.done.region handle ≡ false
+        → after.table.spare handle ≡ spare platform labels handle }
+
+    // No namespace of its region is pending, and those of others are as they were.
+    ensures marks { (platform : Platform) (labels : Labels) (free : List Extent) (asked : NewNamespace) (reply : Reply)
+        (after : State) → (accepts : Accepts platform labels free asked reply after)
+        → (uuid : List ℕ) → after.pending accepts.done.region.index uuid ≡ false }
+    ensures other_marks { (platform : Platform) (labels : Labels) (free : List Extent) (asked : NewNamespace)
+        (reply : Reply) (after : State) → (accepts : Accepts platform labels free asked reply after)
+        → (index : ℕ) (uuid : List ℕ) → index ≢ accepts.done.region.index
+        → after.pending index uuid ≡ pending_at platform labels index uuid }
+{}
+
+/// Where the namespace of an accepted create stands, and what becomes of the regions.
+pub fn range_laws()
+    // Its range begins at a multiple of 2 MiB of each member's part, and all of them together have the size.
+    ensures aligned { (platform : Platform) (labels : Labels) (free : List Extent) (asked : NewNamespace) (reply : Reply)
+        (after : State) → (accepts : Accepts platform labels free asked reply after)
+        → accepts.done.offset % alignment ≡ 0 }
+    ensures whole { (platform : Platform) (labels : Labels) (free : List Extent) (asked : NewNamespace) (reply : Reply)
+        (after : State) → (accepts : Accepts platform labels free asked reply after)
+        → length accepts.done.region.members * part_length asked accepts.done.region ≡ asked.size }
+    ensures some { (platform : Platform) (labels : Labels) (free : List Extent) (asked : NewNamespace) (reply : Reply)
+        (after : State) → (accepts : Accepts platform labels free asked reply after)
+        → 0 < part_length asked accepts.done.region }
+
+    // No namespace had an offset of it, and no label held one.
+    ensures was_free { (platform : Platform) (labels : Labels) (free : List Extent) (asked : NewNamespace) (reply : Reply)
+        (after : State) → (accepts : Accepts platform labels free asked reply after)
+        → (offset : ℕ) → accepts.done.offset ≤ offset
+        → offset < accepts.done.offset + part_length asked accepts.done.region
+        → is_common_free platform labels accepts.done.region offset ≡ true }
+
+    // The region stays Ready, and the others have the status that they had.
+    ensures ready { (platform : Platform) (labels now : Labels) (free : List Extent) (asked : NewNamespace)
+        (reply : Reply) (after : State) → (accepts : Accepts platform labels free asked reply after)
+        → IsDisjoint platform → state platform now ≡ after → status now accepts.done.region ≡ RegionReady }
+    ensures elsewhere { (platform : Platform) (labels now : Labels) (free : List Extent) (asked : NewNamespace)
+        (reply : Reply) (after : State) → (accepts : Accepts platform labels free asked reply after)
+        → IsDisjoint platform → state platform now ≡ after
+        → (other : Region) → Contains platform.regions other → other ≢ accepts.done.region
+        → status now other ≡ status labels other }
+{}
