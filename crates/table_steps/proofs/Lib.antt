@@ -2,3 +2,6 @@ pub mod Lists
 pub mod Sizes
 pub mod Accepted
 pub mod Created
+pub mod Uuids
+pub mod SameSteps
+pub mod OneStep

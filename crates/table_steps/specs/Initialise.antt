@@ -11,7 +11,7 @@ use Rattle.module_labels.specs.Labels.{Labels, is_ready}
 use Rattle.region_map.specs.declared.platform.Platform.{Platform}
 use Rattle.label_table.specs.Settling.{settled, with_ready_area}
 use Rattle.label_table.specs.Tables.{State, state}
-use Rattle.table_steps.specs.Shown.{unready_state}
+use Rattle.region_sets.specs.Statuses.{unready_state}
 use Rattle.table_steps.specs.Changes.{IsDoneBy}
 use Rattle.table_steps.specs.Refusals.{first_of, refused_if, unknown_dimm}
 

@@ -1,4 +1,3 @@
-pub mod Shown
 pub mod Refusals
 pub mod Changes
 pub mod Initialise

@@ -20,7 +20,7 @@ use Rattle.label_table.specs.Fates.{spare}
 use Rattle.label_table.specs.Namespaces.{namespaces}
 use Rattle.label_table.specs.Spaces.{Space, is_pending}
 use Rattle.label_table.specs.Statuses.{AreaNotReady, Clash, RegionReady, RegionStatus, Unusable, status}
-use Rattle.table_steps.specs.Shown.{unready_state}
+use Rattle.region_sets.specs.Statuses.{unready_state}
 
 abbrev pub refused_if : Bool → Refusal → Option Refusal
 refused_if applies refusal = if applies then Some refusal else None

@@ -3,7 +3,9 @@
 ghost use Rattle.std.specs.Prelude.{◌≡◌, ◌≢◌, ℕ, ◌+◌, ◌*◌, ◌%◌, ◌<◌, ◌≤◌, List, Some, false, length, true};
 ghost use Rattle.std.specs.List.{Contains};
 ghost use Rattle.view_types.specs.declared.extents.Extent.{Extent};
+ghost use Rattle.view_types.specs.declared.refusal.Refusal.{Refusal};
 ghost use Rattle.view_types.specs.declared.reply.Reply.{Reply};
+ghost use Rattle.view_types.specs.declared.reply.Reply.TheVariants.{Refused};
 ghost use Rattle.module_labels.specs.Labels.{Labels};
 ghost use Rattle.region_map.specs.declared.platform.Member.{Member};
 ghost use Rattle.region_map.specs.declared.platform.Platform.{Platform};
@@ -14,7 +16,9 @@ ghost use Rattle.label_table.specs.Fates.{spare};
 ghost use Rattle.label_table.specs.Statuses.{RegionReady, status};
 ghost use Rattle.label_table.specs.Tables.{State, changed_at, is_member, pending_at, state, table};
 ghost use Rattle.table_steps.specs.declared.change.NewNamespace.{NewNamespace};
-ghost use Rattle.table_steps.specs.Create.{Accepts, made, part_length};
+ghost use Rattle.table_steps.specs.declared.change.Change.{Change};
+ghost use Rattle.table_steps.specs.Create.{Accepts, create_refusals, made, part_length};
+ghost use Rattle.table_steps.specs.Steps.{Does, IsStep};
 
 /// What an accepted create makes of the table and of the pending marks.
 pub fn create_laws()
@@ -79,4 +83,24 @@ pub fn range_laws()
         → IsDisjoint platform → state platform now ≡ after
         → (other : Region) → Contains platform.regions other → other ≢ accepts.done.region
         → status now other ≡ status labels other }
+{}
+
+/// What a step rests on.
+pub fn step_laws()
+    // A refused command changes nothing.
+    ensures refused { (platform : Platform) (slots : ℕ → ℕ) (before after : State) (change : Change) (own : List ℕ)
+        (refusal : Refusal) → IsStep platform slots before change own (Refused refusal) after → after ≡ before }
+
+    // Labels that stand for one state have the same refusals and the same step.
+    ensures refusals { (platform : Platform) (labels other : Labels) (free : List Extent) (asked : NewNamespace)
+        → IsDisjoint platform → state platform other ≡ state platform labels
+        → create_refusals platform other free asked ≡ create_refusals platform labels free asked }
+    ensures any_labels { (platform : Platform) (slots : ℕ → ℕ) (labels other : Labels) (change : Change) (own : List ℕ)
+        (reply : Reply) (after : State) → IsDisjoint platform → state platform other ≡ state platform labels
+        → Does platform slots labels change own reply after → Does platform slots other change own reply after }
+
+    // So there is one step of a command from a state.
+    ensures one_step { (platform : Platform) (slots : ℕ → ℕ) (before after now : State) (change : Change) (own : List ℕ)
+        (reply told : Reply) → IsDisjoint platform → IsStep platform slots before change own reply after
+        → IsStep platform slots before change own told now → (reply ≡ told) × (after ≡ now) }
 {}
