@@ -23,7 +23,8 @@ use Rattle.region_sets.specs.Modules.{dimm_of, is_of, module_in, module_or_missi
 use Rattle.region_sets.specs.Statuses.{unready_state}
 use Rattle.label_sets.specs.Sets.{StoredSets, labels_in, platform_in}
 use Rattle.label_sets.specs.Views.{IsModuleView, IsModuleViewOf, area_state}
-use Rattle.namespace_core.specs.Lists.{AreHeldOf, IsHeld, IsStateOf, area_by}
+use Rattle.table_steps.specs.Refusals.{area_by}
+use Rattle.namespace_core.specs.Lists.{AreHeldOf, IsHeld, IsStateOf}
 
 -- a module is known by its handle where it is found
 known_where : (dimm : ℕ) (modules : List LoadedModule) → list_any (λ handle. handle == dimm) (map dimm_of modules) ≡ is_some (find (is_of dimm) modules)

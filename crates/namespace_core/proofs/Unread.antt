@@ -20,8 +20,8 @@ use Rattle.label_sets.specs.Largest.{IsLargestOf, TellsLargest}
 use Rattle.label_sets.specs.Views.{IsRegionView, IsViewOf, ShowsFree}
 use Rattle.label_table.specs.Division.{AreFreeExtents}
 use Rattle.view_types.specs.declared.reply.Reply.TheVariants.{Free}
-use Rattle.namespace_core.specs.Lists.{IsFree, IsReadyView, IsStateOf, not_ready_by, refusal_by, unread}
-use Rattle.namespace_core.specs.Refusals.{first_of}
+use Rattle.table_steps.specs.Refusals.{first_of, not_ready_by}
+use Rattle.namespace_core.specs.Lists.{IsFree, IsReadyView, IsStateOf, refusal_by, unread}
 
 -- the refusals behind that of an unknown region are those of the status
 clash_refusal : (clash : Option (List ℕ × List ℕ)) → option_or (not_ready_by (status_by_clash clash)) None ≡ refusal_by (shown_status (status_by_clash clash))
