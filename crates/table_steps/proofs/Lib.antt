@@ -5,3 +5,8 @@ pub mod Created
 pub mod Uuids
 pub mod SameSteps
 pub mod OneStep
+pub mod Places
+mod Examples
+mod Rows
+pub mod FreeLists
+pub mod SomeStep

@@ -1,15 +1,18 @@
 //! Laws of the steps. The functions do nothing: their clauses say what holds.
 
-ghost use Rattle.std.specs.Prelude.{◌≡◌, ◌≢◌, ℕ, ◌+◌, ◌*◌, ◌%◌, ◌<◌, ◌≤◌, List, Some, false, length, true};
+ghost use Rattle.std.specs.Prelude.{◌≡◌, ◌≢◌, ℕ, ◌+◌, ◌*◌, ◌%◌, ◌<◌, ◌≤◌, List, None, Some, false};
+ghost use Rattle.std.specs.Prelude.{length, true};
 ghost use Rattle.std.specs.List.{Contains};
 ghost use Rattle.view_types.specs.declared.extents.Extent.{Extent};
 ghost use Rattle.view_types.specs.declared.refusal.Refusal.{Refusal};
 ghost use Rattle.view_types.specs.declared.reply.Reply.{Reply};
 ghost use Rattle.view_types.specs.declared.reply.Reply.TheVariants.{Refused};
+ghost use Rattle.view_types.specs.Intervals.{IsFirstFit};
 ghost use Rattle.module_labels.specs.Labels.{Labels};
 ghost use Rattle.region_map.specs.declared.platform.Member.{Member};
 ghost use Rattle.region_map.specs.declared.platform.Platform.{Platform};
 ghost use Rattle.region_map.specs.declared.platform.Region.{Region};
+ghost use Rattle.region_map.specs.Platforms.{region_at};
 ghost use Rattle.label_table.specs.Belonging.{IsDisjoint};
 ghost use Rattle.label_table.specs.Division.{alignment, is_common_free};
 ghost use Rattle.label_table.specs.Fates.{spare};
@@ -17,7 +20,8 @@ ghost use Rattle.label_table.specs.Statuses.{RegionReady, status};
 ghost use Rattle.label_table.specs.Tables.{State, changed_at, is_member, pending_at, state, table};
 ghost use Rattle.table_steps.specs.declared.change.NewNamespace.{NewNamespace};
 ghost use Rattle.table_steps.specs.declared.change.Change.{Change};
-ghost use Rattle.table_steps.specs.Create.{Accepts, create_refusals, made, part_length};
+ghost use Rattle.table_steps.specs.Create.{Accepts, AreFreeOf, create_refusals, made, part_length};
+ghost use Rattle.table_steps.specs.Refusals.{first_of};
 ghost use Rattle.table_steps.specs.Steps.{Does, IsStep};
 
 /// What an accepted create makes of the table and of the pending marks.
@@ -83,6 +87,20 @@ pub fn range_laws()
         → IsDisjoint platform → state platform now ≡ after
         → (other : Region) → Contains platform.regions other → other ≢ accepts.done.region
         → status now other ≡ status labels other }
+{}
+
+/// What there is for each command.
+pub fn some_step_laws()
+    // A create that nothing refuses has a range.
+    ensures place { (platform : Platform) (labels : Labels) (free : List Extent) (asked : NewNamespace) (region : Region)
+        → region_at platform asked.region ≡ Some region
+        → AreFreeOf platform labels (region_at platform asked.region) free
+        → first_of (create_refusals platform labels free asked) ≡ None
+        → (offset : ℕ) × IsFirstFit (is_common_free platform labels region) (part_length asked region) alignment offset }
+
+    // Each command has a step.
+    ensures some_step { (platform : Platform) (slots : ℕ → ℕ) (labels : Labels) (change : Change) (own : List ℕ)
+        → (reply : Reply) × (after : State) × Does platform slots labels change own reply after }
 {}
 
 /// What a step rests on.
