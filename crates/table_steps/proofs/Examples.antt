@@ -1,5 +1,5 @@
 -- Platforms and labels by which the steps are tried out.
-use Rattle.std.proofs.Common.{ℕ, cond, Bool, true, false, List, [], ◌∷◌, Option, Some, None}
+use Rattle.std.proofs.Common.{ℕ, cond, List, [], ◌∷◌, Option, Some, None}
 use Rattle.std.specs.Prelude.{◌==◌, replicate}
 use Rattle.view_types.specs.Guids.{persistent_memory}
 use Rattle.label_codec.specs.declared.label.Label.{Label}

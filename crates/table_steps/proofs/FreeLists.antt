@@ -1,11 +1,10 @@
 -- Each set of offsets below an end has a list of extents.
-use Rattle.std.proofs.Common.{◌≡◌, ◌⊎◌, inl, inr, ℕ, zero, suc, ◌+◌, ◌-◌, ◌≤◌, ◌<◌, Bool, true, false, ◌&&◌, List, [], ◌∷◌, refl, sym, ap, subst, ◌∙◌, arith}
+use Rattle.std.proofs.Common.{◌≡◌, inl, inr, ℕ, zero, suc, ◌+◌, ◌-◌, ◌≤◌, ◌<◌, Bool, true, false, ◌&&◌, List, [], ◌∷◌, sym, ap, subst, ◌∙◌, arith}
 use Rattle.std.specs.Prelude.{◌||◌, nat_le, nat_lt}
-use Rattle.std.proofs.Math.Bool.{or-false}
 use Rattle.std.proofs.lemmas.Bool.{cases_eq}
 use Rattle.view_types.specs.declared.extents.Extent.{Extent}
-use Rattle.view_types.specs.Intervals.{AreMaximal, Ascend, end_of, is_free, is_within}
-use Rattle.label_table.proofs.ListTests.{both, le_from, lt_from, lt_not, never}
+use Rattle.view_types.specs.Intervals.{AreMaximal, Ascend, is_free}
+use Rattle.label_table.proofs.ListTests.{both, le_from, lt_from, lt_not}
 use Rattle.label_table.proofs.Partition.{late}
 
 module _ (whole : ℕ) (free : ℕ → Bool) where

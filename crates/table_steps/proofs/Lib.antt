@@ -10,3 +10,5 @@ mod Examples
 mod Rows
 pub mod FreeLists
 pub mod SomeStep
+pub mod Initialised
+pub mod Made

@@ -1,10 +1,10 @@
 -- What is found in lists, and refusals of which none applies.
-use Rattle.std.proofs.Common.{◌≡◌, ◌⊎◌, inl, inr, Bool, true, false, not, cond, List, [], ◌∷◌, find, Option, Some, None, refl, sym, subst, ◌∙◌}
+use Rattle.std.proofs.Common.{◌≡◌, ◌⊎◌, inl, inr, Bool, true, false, not, cond, List, [], ◌∷◌, find, Option, Some, None, refl, sym, subst}
 use Rattle.std.specs.Prelude.{◌||◌, option_map}
 use Rattle.std.specs.List.{Contains}
 use Rattle.std.specs.Option.{option_or}
 use Rattle.view_types.specs.declared.refusal.Refusal.{Refusal}
-use Rattle.label_table.proofs.ListTests.{Contains-cases, Contains-none, never}
+use Rattle.label_table.proofs.ListTests.{Contains-cases, Contains-none}
 use Rattle.table_steps.specs.Refusals.{first_of, refused_if}
 
 -- Where nothing is found, nothing passes.

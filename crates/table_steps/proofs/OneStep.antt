@@ -1,5 +1,5 @@
 -- A command has one step from a state.
-use Rattle.std.proofs.Common.{◌≡◌, ℕ, ◌≤◌, Bool, List, [], ◌∷◌, Option, Some, None, refl, sym, ap, subst, ◌∙◌, arith}
+use Rattle.std.proofs.Common.{◌≡◌, ℕ, ◌≤◌, Bool, List, Option, Some, None, sym, subst, ◌∙◌, arith}
 use Rattle.std.specs.Option.{unwrap_or}
 use Rattle.view_types.specs.declared.extents.Extent.{Extent}
 use Rattle.view_types.specs.Intervals.{IsFirstFit}
@@ -21,7 +21,7 @@ use Rattle.table_steps.specs.declared.change.Change.TheVariants.{Create, InitLab
 use Rattle.table_steps.specs.declared.change.NewNamespace.{NewNamespace}
 use Rattle.table_steps.specs.Changes.{IsDoneBy}
 use Rattle.table_steps.specs.Create.{AreFreeOf, AreFreeWhere, Creates, CreatesIn, IsCreated, create_refusals, created, part_length, with_made}
-use Rattle.table_steps.specs.Initialise.{IsInitialised, Initialises, initialise_refusals, initialised}
+use Rattle.table_steps.specs.Initialise.{IsInitialised, initialise_refusals}
 use Rattle.table_steps.specs.Refusals.{first_of}
 use Rattle.table_steps.specs.Steps.{Does, IsStep}
 use Rattle.table_steps.proofs.SameSteps.{does-same}

@@ -1,5 +1,5 @@
 -- Where nothing refuses a create there is a first range for it.
-use Rattle.std.proofs.Common.{◌≡◌, ◌⊎◌, inl, inr, ℕ, zero, suc, ◌+◌, ◌*◌, ◌%◌, ◌≤◌, ◌<◌, Bool, true, false, List, Option, Some, None, length, sym, ap, subst, ◌∙◌, arith}
+use Rattle.std.proofs.Common.{◌≡◌, ◌⊎◌, inl, inr, ℕ, zero, suc, ◌+◌, ◌*◌, ◌%◌, ◌≤◌, ◌<◌, Bool, true, List, Option, Some, None, length, sym, subst, arith}
 use Rattle.std.proofs.Math.Nat.{le_of_mul-le-mul_left}
 use Rattle.std.proofs.lemmas.Bool.{cases_eq, cases_lt}
 use Rattle.view_types.specs.declared.extents.Extent.{Extent}
@@ -10,7 +10,7 @@ use Rattle.region_map.specs.declared.platform.Platform.{Platform}
 use Rattle.region_map.specs.declared.platform.Region.{Region}
 use Rattle.region_map.specs.Platforms.{region_at}
 use Rattle.label_table.specs.Division.{AreFreeExtents, alignment, is_common_free, part_size}
-use Rattle.label_table.specs.Statuses.{RegionStatus, status}
+use Rattle.label_table.specs.Statuses.{RegionStatus}
 use Rattle.label_table.proofs.ListTests.{both, never}
 use Rattle.table_steps.specs.declared.change.NewNamespace.{NewNamespace}
 use Rattle.table_steps.specs.Create.{AreFreeOf, AreFreeWhere, create_refusals, part_length}

@@ -1,13 +1,12 @@
 -- Worked rows, by computation.
-use Rattle.std.proofs.Common.{◌≡◌, ℕ, ◌≤◌, ◌<◌, Bool, true, false, ◌&&◌, List, [], ◌∷◌, Option, Some, None, refl, sym, ◌∙◌, arith}
+use Rattle.std.proofs.Common.{◌≡◌, ℕ, ◌<◌, true, false, ◌&&◌, List, [], ◌∷◌, Some, None, refl, arith}
 use Rattle.std.specs.Prelude.{nat_lt}
 use Rattle.view_types.specs.declared.extents.Extent.{Extent}
 use Rattle.view_types.specs.declared.refusal.Refusal.TheVariants.{AlreadyReady, BadSize, NameInUse, NoSlots, NoSpace, NotReady, Unhealed, UnknownDimm, UnknownRegion, UuidInUse}
-use Rattle.view_types.specs.declared.reply.Reply.{Reply}
-use Rattle.view_types.specs.declared.reply.Reply.TheVariants.{Created, Initialised}
+use Rattle.view_types.specs.declared.reply.Reply.TheVariants.{Created}
 use Rattle.view_types.specs.declared.states.AreaState.TheVariants as state
 use Rattle.view_types.specs.declared.states.Status.TheVariants as shown
-use Rattle.view_types.specs.Intervals.{AllFree, IsFirstFit}
+use Rattle.view_types.specs.Intervals.{IsFirstFit}
 use Rattle.module_labels.specs.declared.kind.AreaKind.TheVariants.{Foreign, Missing, Ready, Uninit}
 use Rattle.module_labels.specs.Labels.{Labels}
 use Rattle.label_table.specs.Division.{alignment, is_common_free}

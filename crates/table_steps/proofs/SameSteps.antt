@@ -20,7 +20,7 @@ use Rattle.label_table.specs.Division.{alignment, is_common_free, part_size}
 use Rattle.label_table.specs.Namespaces.{namespaces}
 use Rattle.label_table.specs.Spaces.{Space, is_pending}
 use Rattle.label_table.specs.Statuses.{AreaNotReady, Clash, RegionReady, RegionStatus, Unusable, status}
-use Rattle.label_table.specs.Tables.{State, Table, state, table}
+use Rattle.label_table.specs.Tables.{State, state, table}
 use Rattle.label_table.proofs.Equations.{pending-of_state}
 use Rattle.label_table.proofs.ListTests.{find-some}
 use Rattle.label_table.proofs.StatusLaws.{common_free-kept, namespaces-kept, status-kept}
@@ -28,9 +28,9 @@ use Rattle.table_steps.specs.declared.change.Change.{Change}
 use Rattle.table_steps.specs.declared.change.Change.TheVariants.{Create, InitLabels}
 use Rattle.table_steps.specs.declared.change.NewNamespace.{NewNamespace}
 use Rattle.table_steps.specs.Changes.{IsDoneBy}
-use Rattle.table_steps.specs.Create.{AreFreeOf, AreFreeWhere, Creates, CreatesIn, IsCreated, bad_size_in, create_refusals, is_named, is_unnamed, keeps_uuid, name_in_use_in, no_space_in, part_length, uuid_in_use, with_made}
+use Rattle.table_steps.specs.Create.{AreFreeOf, AreFreeWhere, Creates, IsCreated, bad_size_in, create_refusals, is_named, is_unnamed, keeps_uuid, name_in_use_in, no_space_in, part_length, uuid_in_use, with_made}
 use Rattle.table_steps.specs.Initialise.{Initialises, already_ready, cannot_initialise, initialised}
-use Rattle.table_steps.specs.Refusals.{any_pending, by_region, first_of, no_slots_in, not_ready_by, region_not_ready, unhealed, unhealed_in, unknown_dimm, unknown_region, unusable}
+use Rattle.table_steps.specs.Refusals.{any_pending, by_region, first_of, no_slots_in, not_ready_by, unhealed_in, unknown_dimm, unknown_region, unusable}
 use Rattle.table_steps.specs.Steps.{Does}
 use Rattle.table_steps.proofs.Uuids.{keeps-same}
 
@@ -99,7 +99,7 @@ module _ (P : Platform) (disjoint : IsDisjoint P) (L M : Labels) (same : state P
       let uuids_are = uuids-same a.uuid in
       let slots_are = by_region-same P a.region (no_slots_in P M 2) (no_slots_in P L 2) slots-same in
       λ i. unknown_region P a.region ∷ unusable P a.region ∷ statuses_are i ∷ unhealed_are i ∷ by_region P a.region (bad_size_in a.size) ∷ names_are i ∷ uuids_are i
-          ∷ by_region P a.region (no_space_in free a.size) ∷ slots_are i ∷ []
+      ∷ by_region P a.region (no_space_in free a.size) ∷ slots_are i ∷ []
 
   created-same : (a : NewNamespace) (reply : Reply) (after : State) → IsCreated P L a reply after → IsCreated P M a reply after
   created-same a reply after c = record {

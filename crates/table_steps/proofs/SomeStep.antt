@@ -1,7 +1,7 @@
 -- Each command has a step.
-use Rattle.std.proofs.Common.{◌≡◌, ℕ, ◌≤◌, Bool, false, ◌&&◌, not, List, [], Option, Some, None, refl, sym, ap, subst, ◌∙◌}
+use Rattle.std.proofs.Common.{◌≡◌, ℕ, ◌≤◌, false, ◌&&◌, not, List, [], Option, Some, None, refl}
 use Rattle.std.specs.Prelude.{◌==◌, is_none, nat_lt}
-use Rattle.std.specs.Option.{option_or, unwrap_or}
+use Rattle.std.specs.Option.{unwrap_or}
 use Rattle.view_types.specs.declared.extents.Extent.{Extent}
 use Rattle.view_types.specs.declared.refusal.Refusal.{Refusal}
 use Rattle.view_types.specs.declared.refusal.Refusal.TheVariants.{UnknownRegion}
@@ -19,12 +19,12 @@ use Rattle.table_steps.specs.declared.change.Change.{Change}
 use Rattle.table_steps.specs.declared.change.Change.TheVariants.{Create, InitLabels}
 use Rattle.table_steps.specs.declared.change.NewNamespace.{NewNamespace}
 use Rattle.table_steps.specs.Changes.{IsDoneBy}
-use Rattle.table_steps.specs.Create.{AreFreeOf, AreFreeWhere, Creates, CreatesIn, IsCreated, create_refusals, created, with_made}
-use Rattle.table_steps.specs.Initialise.{IsInitialised, Initialises, initialise_refusals, initialised}
+use Rattle.table_steps.specs.Create.{AreFreeOf, AreFreeWhere, Creates, IsCreated, create_refusals, created, with_made}
+use Rattle.table_steps.specs.Initialise.{IsInitialised, initialise_refusals, initialised}
 use Rattle.table_steps.specs.Refusals.{first_of, refused_if}
 use Rattle.table_steps.specs.Steps.{Does}
 use Rattle.table_steps.proofs.FreeLists.{maximal}
-use Rattle.table_steps.proofs.Lists.{AreNone, first-none}
+use Rattle.table_steps.proofs.Lists.{first-none}
 use Rattle.table_steps.proofs.Places.{place}
 
 module _ (P : Platform) (L : Labels) where

@@ -1,20 +1,19 @@
 -- Which modules have a label with a uuid that is not dead: the table tells it.
-use Rattle.std.proofs.Common.{◌≡◌, ◌⊎◌, inl, inr, ℕ, zero, suc, ◌+◌, ◌≤◌, ◌<◌, Bool, true, false, not, ◌&&◌, cond, List, Option, Some, None, refl, sym, ap, subst, ◌∙◌, arith}
+use Rattle.std.proofs.Common.{◌≡◌, inl, inr, ℕ, zero, suc, ◌+◌, ◌<◌, Bool, true, false, not, ◌&&◌, cond, List, Option, Some, None, refl, sym, ap, subst, ◌∙◌, arith}
 use Rattle.std.specs.Prelude.{◌==◌, ◌||◌, is_some, nat_lt}
 use Rattle.std.specs.List.{Contains, list_any}
-use Rattle.std.specs.Str.{bytes_eq}
-use Rattle.std.proofs.lemmas.Bool.{and_from, and_parts, cases_lt}
+use Rattle.std.proofs.lemmas.Bool.{and_from, and_parts}
 use Rattle.label_codec.specs.declared.label.Label.{Label}
-use Rattle.module_labels.specs.Labels.{Labels, Module, has, label_if, number, one}
-use Rattle.module_labels.proofs.Counting.{IsAt, count-cases, count-least, one-some}
+use Rattle.module_labels.specs.Labels.{Labels, has, label_if, number, one}
+use Rattle.module_labels.proofs.Counting.{count-cases, count-least, one-some}
 use Rattle.region_map.specs.declared.platform.Member.{Member}
 use Rattle.region_map.specs.declared.platform.Platform.{Platform}
 use Rattle.region_map.specs.declared.platform.Region.{Region}
 use Rattle.label_table.specs.Belonging.{IsDisjoint, belongs, offset_in, region_of}
 use Rattle.label_table.specs.Fates.{held_count, is_dead, is_held, is_of_namespace, is_whole_in}
-use Rattle.label_table.specs.Spaces.{Space, space}
+use Rattle.label_table.specs.Spaces.{space}
 use Rattle.label_table.specs.Tables.{is_member, table}
-use Rattle.label_table.specs.Wholes.{agrees, is_whole, labels_with}
+use Rattle.label_table.specs.Wholes.{is_whole, labels_with}
 use Rattle.label_table.proofs.Equations.{space-of_table}
 use Rattle.label_table.proofs.Listed.{space-whole}
 use Rattle.label_table.proofs.ListTests.{both, eq_same, eq_true, list_any-at, list_any-found, list_any-same, lt_from, never, some_is, uuid_is}

@@ -1,6 +1,6 @@
 -- `create-namespace`: a namespace on the least aligned range of a region that is common free.
-use Rattle.std.specs.Prelude.{◌≡◌, ℕ, ◌*◌, ◌/◌, ◌%◌, ◌==◌, ◌&&◌, ◌||◌, nat_lt, Bool, false, not, List, [], ◌∷◌, Option, Some}
-use Rattle.std.specs.Prelude.{None, find, if◌then◌else◌, length, option_map}
+use Rattle.std.specs.Prelude.{◌≡◌, ℕ, ◌*◌, ◌/◌, ◌%◌, ◌==◌, ◌&&◌, ◌||◌, nat_lt, Bool, false, not, List, [], ◌∷◌}
+use Rattle.std.specs.Prelude.{Option, Some, None, find, if◌then◌else◌, length, option_map}
 use Rattle.std.specs.Str.{bytes_eq}
 use Rattle.view_types.specs.declared.extents.Extent.{Extent}
 use Rattle.view_types.specs.declared.refusal.Refusal.{Refusal}
@@ -59,7 +59,8 @@ uuid_in_use platform labels uuid = option_map UuidInUse (find (keeps_uuid platfo
 abbrev pub no_space_in : List Extent → ℕ → Region → Option Refusal
 no_space_in free size region = refused_if (nat_lt (largest region free) size) (NoSpace (largest region free))
 
--- `free` are the region's free extents. Two slots of each module are asked for: recovery and the next command need one.
+-- `free` are the region's free extents. Each module needs two spare slots: one stays for what is written later, as the
+-- labels of a recovery.
 abbrev pub create_refusals : Platform → Labels → List Extent → NewNamespace → List (Option Refusal)
 create_refusals platform labels free asked =
     unknown_region platform asked.region

@@ -1,11 +1,13 @@
--- Why commands are refused: the tests that they share, each with its refusal where it applies, and the first of a list.
+-- Why commands are refused: the tests that they share, each with its refusal where it applies, and the first of a
+-- list.
 use Rattle.std.specs.Prelude.{◌≡◌, ℕ, ◌==◌, nat_lt, Bool, not, List, [], ◌∷◌, Option, Some, None, if◌then◌else◌, find}
 use Rattle.std.specs.Prelude.{is_none, option_map}
 use Rattle.std.specs.List.{list_any}
 use Rattle.std.specs.Option.{option_and_then, option_or}
 use Rattle.view_types.specs.declared.refusal.Refusal.{Refusal}
 use Rattle.view_types.specs.declared.refusal.Refusal.TheVariants as refusals
-use Rattle.view_types.specs.declared.refusal.Refusal.TheVariants.{NoSlots, NotReady, Unhealed, UnknownDimm, UnknownRegion}
+use Rattle.view_types.specs.declared.refusal.Refusal.TheVariants.{NoSlots, NotReady, Unhealed, UnknownDimm}
+use Rattle.view_types.specs.declared.refusal.Refusal.TheVariants.{UnknownRegion}
 use Rattle.view_types.specs.declared.reply.Reply.{Reply}
 use Rattle.view_types.specs.declared.reply.Reply.TheVariants.{Refused}
 use Rattle.view_types.specs.declared.states.Status.TheVariants as shown
@@ -69,7 +71,8 @@ first_below platform labels least region =
 
 -- a namespace of the region is pending
 abbrev pub any_pending : Labels → Region → Bool
-any_pending labels region = list_any (λ (space : Space). is_pending labels region space.uuid) (namespaces labels region)
+any_pending labels region =
+    list_any (λ (space : Space). is_pending labels region space.uuid) (namespaces labels region)
 
 -- A namespace of the region is pending, and a module has no slot for the labels that recovery writes.
 abbrev pub unhealed_in : Platform → Labels → Region → Option Refusal

@@ -1,5 +1,6 @@
--- The step of a command that may change the state of the label storage areas. Of slots it tells only how many are spare.
-use Rattle.std.specs.Prelude.{◌≡◌, ℕ, List, Option, Some, None}
+-- The step of a command that may change the state of the label storage areas. Of slots it tells only how many are
+-- spare.
+use Rattle.std.specs.Prelude.{◌≡◌, ℕ, List}
 use Rattle.std.specs.Option.{unwrap_or}
 use Rattle.view_types.specs.declared.reply.Reply.{Reply}
 use Rattle.module_labels.specs.Labels.{Labels}
@@ -10,8 +11,8 @@ use Rattle.table_steps.specs.declared.change.Change.TheVariants.{Create, InitLab
 use Rattle.table_steps.specs.Create.{Creates}
 use Rattle.table_steps.specs.Initialise.{Initialises}
 
--- What the command does where the labels of the modules are these. `slots` is how many slots the area of each module has
--- room for, by handle, and `own` the uuid of a new namespace for which the command gives none.
+-- What the command does where the labels of the modules are these. `slots` is how many slots the area of each module
+-- has room for, by handle, and `own` the uuid of a new namespace for which the command gives none.
 abbrev pub Does : Platform → (ℕ → ℕ) → Labels → Change → List ℕ → Reply → State → Type 0
 Does platform slots labels (InitLabels dimm) own reply after =
     Initialises platform labels dimm (slots dimm) reply after

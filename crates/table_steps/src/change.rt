@@ -4,7 +4,9 @@
 #[derive(Clone, Copy, Debug, PartialEq, Eq)]
 pub enum Change {
     /// The label storage area of the module with this device handle is initialised.
-    InitLabels { dimm: u32 },
+    InitLabels {
+        dimm: u32,
+    },
     /// A namespace is made in the region with an index. Where no uuid is given it gets one of its own. For the other
     /// values see `NewNamespace`.
     Create {

@@ -6,4 +6,4 @@ mod change;
 mod laws;
 
 pub use change::{Change, NewNamespace};
-pub use laws::{create_laws, range_laws, some_step_laws, step_laws};
+pub use laws::{create_laws, initialise_laws, made_laws, range_laws, some_step_laws, step_laws};
