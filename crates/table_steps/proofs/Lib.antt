@@ -12,3 +12,4 @@ pub mod FreeLists
 pub mod SomeStep
 pub mod Initialised
 pub mod Made
+pub mod Replies

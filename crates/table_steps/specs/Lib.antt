@@ -3,3 +3,4 @@ pub mod Changes
 pub mod Initialise
 pub mod Create
 pub mod Steps
+pub mod Plain

@@ -4,6 +4,11 @@
 
 mod change;
 mod laws;
+mod plain;
 
 pub use change::{Change, NewNamespace};
 pub use laws::{create_laws, initialise_laws, made_laws, range_laws, some_step_laws, step_laws};
+pub use plain::{bad_size, initialise, no_slots, spare, uuid_in_use};
+
+#[cfg(test)]
+mod tests;
