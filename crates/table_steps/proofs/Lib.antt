@@ -6,6 +6,7 @@ pub mod Uuids
 pub mod SameSteps
 pub mod OneStep
 pub mod Places
+pub mod KnownRegions
 mod Examples
 mod Rows
 pub mod FreeLists

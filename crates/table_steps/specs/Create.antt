@@ -4,6 +4,7 @@ use Rattle.std.specs.Prelude.{Option, Some, None, find, if◌then◌else◌, len
 use Rattle.std.specs.Str.{bytes_eq}
 use Rattle.view_types.specs.declared.extents.Extent.{Extent}
 use Rattle.view_types.specs.declared.refusal.Refusal.{Refusal}
+use Rattle.view_types.specs.declared.refusal.Refusal.TheVariants as refusals
 use Rattle.view_types.specs.declared.refusal.Refusal.TheVariants.{BadSize, NameInUse, NoSpace, UuidInUse}
 use Rattle.view_types.specs.declared.reply.Reply.{Reply}
 use Rattle.view_types.specs.declared.reply.Reply.TheVariants.{Created}
@@ -22,8 +23,8 @@ use Rattle.label_table.specs.Statuses.{AreaNotReady, Clash, RegionReady, RegionS
 use Rattle.label_table.specs.Tables.{State, state, with_namespace}
 use Rattle.table_steps.specs.declared.change.NewNamespace.{NewNamespace}
 use Rattle.table_steps.specs.Changes.{IsDoneBy, least_spare, without_marks}
-use Rattle.table_steps.specs.Refusals.{by_region, first_of, no_slots, refused_if, region_not_ready, unhealed}
-use Rattle.table_steps.specs.Refusals.{unknown_region, unusable}
+use Rattle.table_steps.specs.Refusals.{by_region, first_of, no_slots, no_slots_in, not_ready_by, refused_if}
+use Rattle.table_steps.specs.Refusals.{region_not_ready, unhealed, unhealed_in, unknown_region, unusable}
 
 -- the bytes of all members that sizes are multiples of
 abbrev pub size_unit : Region → ℕ
@@ -72,6 +73,20 @@ create_refusals platform labels free asked =
     ∷ uuid_in_use platform labels asked.uuid
     ∷ by_region platform asked.region (no_space_in free asked.size)
     ∷ no_slots platform labels 2 asked.region
+    ∷ []
+
+-- the same for a region that there is
+abbrev pub known_region_refusals : Platform → Labels → List Extent → NewNamespace → Region → List (Option Refusal)
+known_region_refusals platform labels free asked region =
+    None
+    ∷ option_map refusals.Unusable region.rule
+    ∷ not_ready_by (status labels region)
+    ∷ unhealed_in platform labels region
+    ∷ bad_size_in asked.size region
+    ∷ name_in_use_in labels asked.name region
+    ∷ uuid_in_use platform labels asked.uuid
+    ∷ no_space_in free asked.size region
+    ∷ no_slots_in platform labels 2 region
     ∷ []
 
 -- the free extents of a region that is Ready: of others none are looked for

@@ -9,7 +9,8 @@ use Rattle.table_steps.specs.Initialise.{Initialises}
 
 -- the reply to `init-labels`, whatever the state after it
 abbrev pub IsInitialiseReply : Platform → Labels → ℕ → ℕ → Reply → Type 0
-IsInitialiseReply platform labels dimm slots reply = (after : State) × Initialises platform labels dimm slots reply after
+IsInitialiseReply platform labels dimm slots reply =
+    (after : State) × Initialises platform labels dimm slots reply after
 
 -- a region that can be used has 1 to 16 modules
 pub record HasFewModules (region : Region) : Type 0 where

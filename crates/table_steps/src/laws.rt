@@ -22,7 +22,8 @@ ghost use Rattle.label_table.specs.Statuses.{RegionReady, status};
 ghost use Rattle.label_table.specs.Tables.{State, changed_at, is_member, pending_at, state, table, with_namespace};
 ghost use Rattle.table_steps.specs.declared.change.NewNamespace.{NewNamespace};
 ghost use Rattle.table_steps.specs.declared.change.Change.{Change};
-ghost use Rattle.table_steps.specs.Create.{Accepts, AreFreeOf, create_refusals, made, part_length, with_made};
+ghost use Rattle.table_steps.specs.Create.{Accepts, AreFreeOf, create_refusals, known_region_refusals, made};
+ghost use Rattle.table_steps.specs.Create.{part_length, with_made};
 ghost use Rattle.table_steps.specs.Changes.{least_spare};
 ghost use Rattle.table_steps.specs.Initialise.{IsInitialised, initialised};
 ghost use Rattle.table_steps.specs.Refusals.{first_of};
@@ -120,7 +121,8 @@ pub fn made_laws()
     ensures least { (state : State) (region : Region) (member : Member) → Contains region.members member
         → least_spare state region ≤ state.table.spare member.handle }
     ensures least_is { (state : State) (region : Region) → 0 < length region.members
-        → (member : Member) × Contains region.members member × (least_spare state region ≡ state.table.spare member.handle) }
+        → (member : Member) × Contains region.members member
+        × (least_spare state region ≡ state.table.spare member.handle) }
 {}
 
 /// What there is for each command.
@@ -144,6 +146,11 @@ pub fn step_laws()
     // A refused command changes nothing.
     ensures refused { (platform : Platform) (slots : ℕ → ℕ) (before after : State) (change : Change) (own : List ℕ)
         (refusal : Refusal) → IsStep platform slots before change own (Refused refusal) after → after ≡ before }
+
+    // What refuses a create in a region that there is.
+    ensures known_region { (platform : Platform) (labels : Labels) (free : List Extent) (asked : NewNamespace)
+        (region : Region) → region_at platform asked.region ≡ Some region
+        → create_refusals platform labels free asked ≡ known_region_refusals platform labels free asked region }
 
     // Labels that stand for one state have the same refusals and the same step.
     ensures refusals { (platform : Platform) (labels other : Labels) (free : List Extent) (asked : NewNamespace)

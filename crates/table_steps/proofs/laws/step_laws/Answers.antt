@@ -1,3 +1,4 @@
+use Rattle.table_steps.proofs.KnownRegions.{known-region}
 use Rattle.table_steps.proofs.OneStep.{step-one, step-refused}
 use Rattle.table_steps.proofs.SameSteps.{does-same, refusals-same}
 use Rattle.table_steps.proofs.laws.step_laws.Goals as goal
@@ -13,3 +14,6 @@ returns-clause-any_labels c = λ P slots L M change own reply after disjoint sam
 
 pub returns-clause-one_step : goal.returns-clause-one_step
 returns-clause-one_step c = λ P slots before after now change own reply told disjoint a b. step-one P disjoint slots before change own reply after told now a b
+
+pub returns-clause-known_region : goal.returns-clause-known_region
+returns-clause-known_region c = λ P L free a r found. known-region P L free a r found
