@@ -1,9 +1,8 @@
 -- The refusals of a create in a region that there is.
-use Rattle.std.proofs.Common.{◌≡◌, List, [], ◌∷◌, Option, Some, None}
+use Rattle.std.proofs.Common.{◌≡◌, List, [], ◌∷◌, Some}
 use Rattle.std.specs.Prelude.{is_none, option_map}
 use Rattle.std.specs.Option.{option_and_then}
 use Rattle.view_types.specs.declared.extents.Extent.{Extent}
-use Rattle.view_types.specs.declared.refusal.Refusal.{Refusal}
 use Rattle.view_types.specs.declared.refusal.Refusal.TheVariants.{UnknownRegion, Unusable}
 use Rattle.module_labels.specs.Labels.{Labels}
 use Rattle.region_map.specs.declared.platform.Platform.{Platform}
@@ -17,12 +16,12 @@ use Rattle.table_steps.specs.Refusals.{no_slots_in, not_ready_by, refused_if, un
 pub known-region : (P : Platform) (L : Labels) (free : List Extent) (a : NewNamespace) (r : Region) → region_at P a.region ≡ Some r → create_refusals P L free a ≡ known_region_refusals P L free a r
 known-region P L free a r found =
     λ i. refused_if (is_none (found i)) (UnknownRegion a.region)
-        ∷ option_and_then (λ (q : Region). option_map Unusable q.rule) (found i)
-        ∷ option_and_then (λ (q : Region). not_ready_by (status L q)) (found i)
-        ∷ option_and_then (unhealed_in P L) (found i)
-        ∷ option_and_then (bad_size_in a.size) (found i)
-        ∷ option_and_then (name_in_use_in L a.name) (found i)
-        ∷ uuid_in_use P L a.uuid
-        ∷ option_and_then (no_space_in free a.size) (found i)
-        ∷ option_and_then (no_slots_in P L 2) (found i)
-        ∷ []
+    ∷ option_and_then (λ (q : Region). option_map Unusable q.rule) (found i)
+    ∷ option_and_then (λ (q : Region). not_ready_by (status L q)) (found i)
+    ∷ option_and_then (unhealed_in P L) (found i)
+    ∷ option_and_then (bad_size_in a.size) (found i)
+    ∷ option_and_then (name_in_use_in L a.name) (found i)
+    ∷ uuid_in_use P L a.uuid
+    ∷ option_and_then (no_space_in free a.size) (found i)
+    ∷ option_and_then (no_slots_in P L 2) (found i)
+    ∷ []

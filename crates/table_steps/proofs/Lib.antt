@@ -7,6 +7,7 @@ pub mod SameSteps
 pub mod OneStep
 pub mod Places
 pub mod KnownRegions
+pub mod Fresh
 mod Examples
 mod Rows
 pub mod FreeLists

@@ -8,15 +8,16 @@ ghost use Rattle.view_types.specs.declared.refusal.Refusal.{Refusal};
 ghost use Rattle.view_types.specs.declared.reply.Reply.{Reply};
 ghost use Rattle.view_types.specs.declared.reply.Reply.TheVariants.{Refused};
 ghost use Rattle.view_types.specs.Intervals.{IsFirstFit};
+ghost use Rattle.label_codec.specs.declared.label.Label.{Label};
 ghost use Rattle.module_labels.specs.declared.kind.AreaKind.TheVariants.{Ready};
-ghost use Rattle.module_labels.specs.Labels.{IsBounded, Labels};
+ghost use Rattle.module_labels.specs.Labels.{IsBounded, Labels, has};
 ghost use Rattle.region_map.specs.declared.platform.Member.{Member};
 ghost use Rattle.region_map.specs.declared.platform.Platform.{Platform};
 ghost use Rattle.region_map.specs.declared.platform.Region.{Region};
 ghost use Rattle.region_map.specs.Platforms.{region_at};
 ghost use Rattle.label_table.specs.Belonging.{IsDisjoint};
 ghost use Rattle.label_table.specs.Division.{alignment, is_common_free};
-ghost use Rattle.label_table.specs.Fates.{spare};
+ghost use Rattle.label_table.specs.Fates.{is_dead, spare};
 ghost use Rattle.label_table.specs.Settling as settling;
 ghost use Rattle.label_table.specs.Statuses.{RegionReady, status};
 ghost use Rattle.label_table.specs.Tables.{State, changed_at, is_member, pending_at, state, table, with_namespace};
@@ -125,7 +126,7 @@ pub fn made_laws()
         × (least_spare state region ≡ state.table.spare member.handle) }
 {}
 
-/// What there is for each command.
+/// What there is for each command, and what holds where nothing refuses a create.
 pub fn some_step_laws()
     // A create that nothing refuses has a range.
     ensures place { (platform : Platform) (labels : Labels) (free : List Extent) (asked : NewNamespace)
@@ -135,6 +136,14 @@ pub fn some_step_laws()
         → first_of (create_refusals platform labels free asked) ≡ None
         → (offset : ℕ) × IsFirstFit (is_common_free platform labels region)
         (part_length asked region) alignment offset }
+
+    // Of the labels that have its uuid all are dead.
+    ensures fresh { (platform : Platform) (labels : Labels) (free : List Extent) (asked : NewNamespace)
+        (region : Region) → IsBounded labels → region_at platform asked.region ≡ Some region
+        → first_of (create_refusals platform labels free asked) ≡ None
+        → (handle slot : ℕ) (label : Label) → Contains platform.modules handle
+        → (labels handle).at slot ≡ Some label → has asked.uuid label ≡ true
+        → is_dead platform labels handle label ≡ true }
 
     // Each command has a step.
     ensures some_step { (platform : Platform) (slots : ℕ → ℕ) (labels : Labels) (change : Change) (own : List ℕ)
