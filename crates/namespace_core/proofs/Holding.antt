@@ -6,7 +6,7 @@ use Rattle.std.specs.List.Sorted.{IsStrictlyIncreasing}
 use Rattle.std.proofs.lemmas.List.{get_or-map, length-map}
 use Rattle.std.proofs.lemmas.List.Kept.{AllPairs-from_increasing}
 use Rattle.view_types.specs.declared.refusal.Refusal.TheVariants.{UuidInUse}
-use Rattle.module_labels.specs.Labels.{Labels, Module, number}
+use Rattle.module_labels.specs.Labels.{Module, number}
 use Rattle.region_map.specs.declared.platform.Platform.{Platform}
 use Rattle.label_table.proofs.ListTests.{Contains-cases, Contains-none, find-some}
 use Rattle.region_sets.specs.declared.modules.LoadedModule.{LoadedModule}

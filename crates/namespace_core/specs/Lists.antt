@@ -27,7 +27,7 @@ use Rattle.region_sets.specs.Held.{held_below, held_key, key_cmp}
 use Rattle.region_sets.specs.Marks.{listed_in}
 use Rattle.region_sets.specs.Modules.{dimm_of}
 use Rattle.region_sets.specs.Statuses.{shown_status}
-use Rattle.label_sets.specs.Sets.{StoredSets, labels_in}
+use Rattle.label_sets.specs.Sets.{StoredSets}
 use Rattle.label_sets.specs.Views.{IsRegionView}
 use Rattle.table_steps.specs.Refusals.{IsReplyBy, area_not_ready, first_of, region_not_ready, unknown_dimm}
 use Rattle.table_steps.specs.Refusals.{unknown_region, unusable}
