@@ -14,12 +14,12 @@ use Rattle.index_block.proofs.Behind.{kind_of-window}
 use Rattle.index_block.proofs.Sizes.{HasSizes}
 use Rattle.index_block.proofs.Usable.{kind_of-block, length-block}
 use Rattle.module_labels.specs.declared.kind.AreaKind.TheVariants.{Uninit}
-use Rattle.label_area.specs.Blocks.{kind_at, seq_in, window_at}
+use Rattle.label_area.specs.Blocks.{current_in, kind_at, seq_in, window_at}
 use Rattle.label_area.specs.Inits.{IsVacant}
 use Rattle.label_area.specs.Modules.{area_kind}
 use Rattle.label_area.proofs.AreaKinds.{kind_of-unsigned}
 use Rattle.label_area.proofs.Sizes.{block_size-smaller, blocks_within}
-use Rattle.label_area.proofs.Vacant.{NoneSigned, uninit, vacant}
+use Rattle.label_area.proofs.Vacant.{NoneSigned, current_first, current_with, uninit, vacant}
 
 -- What a torn write of an index block may have put at its place: what stood there, the block, or no signed block.
 abbrev pub IsLeftAt : List ℕ → ℕ → List ℕ → List ℕ → Type 0
@@ -114,24 +114,43 @@ module _ (bytes : List ℕ) (g : Geometry) (found : geometry_of (length bytes) 2
       front-second : take g.block (window_at (patched (patched bytes 0 (block_text First 3 g free)) g.block put) g.block) ≡ put
       front-second = front-put (patched bytes 0 (block_text First 3 g free)) put g long sizes.most g.block second_fits
 
+      found-second : geometry_of (length (patched (patched bytes 0 (block_text First 3 g free)) g.block put)) 256 ≡ Some g
+      found-second =
+          let first = block_text First 3 g free in
+          ap (λ (size : ℕ). geometry_of size 256) (size-patched (patched bytes 0 first) put g long sizes.most g.block second_fits) ∙ found-first first first_long
+
+      -- behind the first block, as it was written
+      front-first : take g.block (window_at (patched (patched bytes 0 (block_text First 3 g free)) g.block put) 0) ≡ block_text First 3 g free
+      front-first =
+          let first = block_text First 3 g free in
+          front-before (patched bytes 0 first) put g long sizes.most g.block second_fits 0 (omega arith) ∙ front-put bytes first g first_long sizes.most 0 (omega (arith, two_fit))
+
       -- and are an older block, or no usable one
       vacant-second : (seq_in (kind_at g (patched (patched bytes 0 (block_text First 3 g free)) g.block put) Second) ≡ None) ⊎ (seq_in (kind_at g (patched (patched bytes 0 (block_text First 3 g free)) g.block put) Second) ≡ Some 2)
           → IsVacant (Some (patched (patched bytes 0 (block_text First 3 g free)) g.block put)) g.slots
       vacant-second older =
-          let first = block_text First 3 g free in
-          let mid = patched bytes 0 first in
-          let found_now = ap (λ (size : ℕ). geometry_of size 256) (size-patched mid put g long sizes.most g.block second_fits) ∙ found-first first first_long in
-          let front = front-before mid put g long sizes.most g.block second_fits 0 (omega arith) ∙ front-put bytes first g first_long sizes.most 0 (omega (arith, two_fit)) in
-          vacant (patched mid g.block put) g found_now free enough all_free front older
+          vacant (patched (patched bytes 0 (block_text First 3 g free)) g.block put) g found-second free enough all_free front-first older
 
     -- with both blocks
-    pub vacant-both : IsVacant (Some (patched (patched bytes 0 (block_text First 3 g free)) g.block (block_text Second 2 g free))) g.slots
-    vacant-both =
+    older-both : seq_in (kind_at g (patched (patched bytes 0 (block_text First 3 g free)) g.block (block_text Second 2 g free)) Second) ≡ Some 2
+    older-both =
         let second = block_text Second 2 g free in
         let window = window_at (patched (patched bytes 0 (block_text First 3 g free)) g.block second) g.block in
         let kind : kind_of Second g window ≡ Usable 2 =
         kind_of-window g window second (front-second second second_long) Second 2 (omega (arith, sizes.least)) (kind_of-block Second 2 g free sizes (omega arith, omega arith) enough) in
-        vacant-second second second_long (inr (ap seq_in kind))
+        ap seq_in kind
+
+    pub vacant-both : IsVacant (Some (patched (patched bytes 0 (block_text First 3 g free)) g.block (block_text Second 2 g free))) g.slots
+    vacant-both = vacant-second (block_text Second 2 g free) second_long (inr older-both)
+
+    -- the area has its size still, and the first block is the current one
+    pub found-both : geometry_of (length (patched (patched bytes 0 (block_text First 3 g free)) g.block (block_text Second 2 g free))) 256 ≡ Some g
+    found-both = found-second (block_text Second 2 g free) second_long
+
+    pub current-both : current_in g (patched (patched bytes 0 (block_text First 3 g free)) g.block (block_text Second 2 g free)) ≡ Some (current_with g First 3)
+    current-both =
+        let second = block_text Second 2 g free in
+        current_first (patched (patched bytes 0 (block_text First 3 g free)) g.block second) g found-both free enough (front-first second second_long) (inr older-both)
 
     -- after a torn write of the second block
     pub left_by_second : (garbage : List ℕ) → length garbage ≡ g.block → IsLeftAt (patched bytes 0 (block_text First 3 g free)) g.block (block_text Second 2 g free) garbage

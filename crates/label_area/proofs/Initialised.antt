@@ -20,14 +20,14 @@ use Rattle.index_block.proofs.Behind.{is_free_in-ones}
 use Rattle.index_block.proofs.Sizes.{HasSizes, sizes_of}
 use Rattle.index_block.proofs.Usable.{length-block}
 use Rattle.module_labels.specs.declared.kind.AreaKind.TheVariants.{Uninit, WrongSize}
-use Rattle.label_area.specs.Blocks.{window_at}
+use Rattle.label_area.specs.Blocks.{current_in, window_at}
 use Rattle.label_area.specs.Fair.{IsBlockWrite, IsFair}
 use Rattle.label_area.specs.Inits.{IsInOrder, IsVacant, IsWrittenInOrder, LeftByInit, all_free, first_block, initialised, layout_of, second_block, slots_of, with_blocks}
 use Rattle.label_area.specs.Modules.{area_kind, kind_by_layouts}
-use Rattle.label_area.proofs.BlocksWritten.{IsLeftAt, left_by_first, left_by_second, vacant-both, vacant-first}
+use Rattle.label_area.proofs.BlocksWritten.{IsLeftAt, current-both, found-both, left_by_first, left_by_second, vacant-both, vacant-first}
 use Rattle.label_area.proofs.InOrder.{in_order-first, in_order-second, in_order-untouched}
 use Rattle.label_area.proofs.Sizes.{IsGeometry-found, blocks_within, slots-most}
-use Rattle.label_area.proofs.Vacant.{NoneSigned, none_signed}
+use Rattle.label_area.proofs.Vacant.{NoneSigned, current_with, none_signed}
 
 -- an area with this layout
 pub record IsStored (stored : Option (List ℕ)) (g : Geometry) : Type 0 where
@@ -111,7 +111,7 @@ module _ (areas : Areas) (dimm : ℕ) (bytes : List ℕ) (g : Geometry) (stored 
   first_stored : get (written areas dimm 0 (first_block g)) dimm ≡ Some (patched bytes 0 (first_block g))
   first_stored = get-patched areas dimm bytes stored 0 (first_block g)
 
-  both_stored : get (with_blocks g areas dimm) dimm ≡ Some (patched (patched bytes 0 (first_block g)) g.block (second_block g))
+  pub both_stored : get (with_blocks g areas dimm) dimm ≡ Some (patched (patched bytes 0 (first_block g)) g.block (second_block g))
   both_stored = get-patched (written areas dimm 0 (first_block g)) dimm (patched bytes 0 (first_block g)) first_stored g.block (second_block g)
 
   others-both : OthersKept dimm areas (with_blocks g areas dimm)
@@ -164,6 +164,21 @@ module _ (areas : Areas) (dimm : ℕ) (bytes : List ℕ) (g : Geometry) (stored 
   module _ (is_uninit : area_kind (get areas dimm) ≡ Uninit) where
     none : NoneSigned g bytes
     none = none_signed bytes g found (sym (ap area_kind stored) ∙ is_uninit)
+
+    -- the first block is the current one then
+    pub found-now : geometry_of (length (patched (patched bytes 0 (first_block g)) g.block (second_block g))) 256 ≡ Some g
+    found-now = found-both bytes g found none sizes all_free enough free_bits-all
+
+    pub current-now : current_in g (patched (patched bytes 0 (first_block g)) g.block (second_block g)) ≡ Some (current_with g First 3)
+    current-now = current-both bytes g found none sizes all_free enough free_bits-all
+
+    pub size-now : length (patched (patched bytes 0 (first_block g)) g.block (second_block g)) ≡ length bytes
+    size-now =
+        let fits : g.block + length (second_block g) ≤ length (patched bytes 0 (first_block g)) = omega (arith, two_fit, size-first, second_block-long) in
+        length-patched (patched bytes 0 (first_block g)) (second_block g) g.block fits ∙ size-first
+
+    pub vacant-now : IsVacant (Some (patched (patched bytes 0 (first_block g)) g.block (second_block g))) g.slots
+    vacant-now = vacant-both bytes g found none sizes all_free enough free_bits-all
 
     -- with both blocks the area is Ready without labels
     pub vacant : IsVacant (get (with_blocks g areas dimm) dimm) g.slots

@@ -9,6 +9,7 @@ pub mod BlocksWritten
 pub mod Initialised
 pub mod InOrder
 pub mod Initialising
+pub mod VacantShown
 pub mod FairRecords
 pub mod Standings
 pub mod SlotsWritten

@@ -8,5 +8,6 @@ pub mod Faults
 pub mod Loads
 pub mod Fair
 pub mod Inits
+pub mod VacantAreas
 pub mod Flips
 pub mod FlipWrites

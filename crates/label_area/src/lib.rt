@@ -8,6 +8,7 @@ mod flip_writes;
 mod init;
 mod layouts;
 mod load;
+mod vacancy;
 
 pub use area::Area;
 pub use blocks::{BlockKinds, Current};

@@ -8,3 +8,6 @@ pub mod Unwanted
 pub mod Swept
 pub mod Sweeping
 pub mod SweptSets
+pub mod FreeAfter
+pub mod Stageable
+pub mod Written

@@ -18,7 +18,8 @@ use Rattle.region_sets.specs.Held.{spare_in}
 use Rattle.region_sets.specs.Modules.{is_of, labels_in, module_in, module_or_missing}
 use Rattle.region_changes.specs.SlotLabels.{AreApart, slot_labels}
 use Rattle.module_flips.specs.Flips.{CanFree, HasLabelsInUse, IsOwn, IsReadyArea, is_used_in, standing_in, with_free}
-use Rattle.label_sets.specs.Sweeps.{IsSwept, free_slots, is_unwanted, slots_below, unwanted_slots}
+use Rattle.module_flips.specs.Together.{free_slots}
+use Rattle.label_sets.specs.Sweeps.{IsSwept, is_unwanted, slots_below, unwanted_slots}
 use Rattle.module_flips.proofs.Freed.{used-within}
 use Rattle.label_sets.proofs.Swept.{free-or-passing, no-dead, no-junk}
 

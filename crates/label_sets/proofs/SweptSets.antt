@@ -69,7 +69,7 @@ fewer-entries P was now leaves (h ∷ hs) position =
     omega (arith, rest, here, a, b)
 
 -- an element does not hang on the default
-get_or-any : {A : Type 0} (xs : List A) (k : ℕ) → k < length xs → (d e : A) → get_or xs k d ≡ get_or xs k e
+pub get_or-any : {A : Type 0} (xs : List A) (k : ℕ) → k < length xs → (d e : A) → get_or xs k d ≡ get_or xs k e
 get_or-any [] k lt d e = absurd (omega arith)
 get_or-any (x ∷ xs) zero lt d e = refl
 get_or-any (x ∷ xs) (suc k) lt d e = get_or-any xs k (omega arith) d e

@@ -7,3 +7,4 @@ pub mod Kept
 pub mod Views
 pub mod Largest
 pub mod Lookups
+pub mod Staging

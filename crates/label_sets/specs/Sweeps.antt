@@ -4,15 +4,12 @@ use Rattle.std.specs.Prelude.{if◌then◌else◌, is_some, length, map, slice_i
 use Rattle.std.specs.List.{All}
 use Rattle.std.specs.Option.{option_map_or}
 use Rattle.extent_alloc.specs.Free.{FreeSpace}
-use Rattle.index_block.specs.Bitmap.{free_count}
 use Rattle.label_codec.specs.declared.label.Label.{Label}
 use Rattle.module_labels.specs.Labels.{Labels}
 use Rattle.region_map.specs.declared.platform.Platform.{Platform}
 use Rattle.label_table.specs.Fates.{is_dead}
 use Rattle.label_table.specs.Tables.{state}
 use Rattle.region_sets.specs.declared.modules.LoadedModule.{LoadedModule}
-use Rattle.region_sets.specs.declared.modules.ModuleArea.{ModuleArea}
-use Rattle.region_sets.specs.declared.modules.ModuleArea.TheVariants.{Missing, WrongSize, Uninit, Foreign, Ready}
 use Rattle.region_sets.specs.Held.{spare_in}
 use Rattle.region_sets.specs.declared.region.RegionLabels.{RegionLabels}
 use Rattle.region_sets.specs.Fates.{platform_of, region_in}
@@ -21,6 +18,7 @@ use Rattle.region_sets.specs.Modules as loaded
 use Rattle.region_sets.specs.Regions.{IsOver}
 use Rattle.region_changes.specs.Changes.{dimm_at}
 use Rattle.module_flips.specs.Flips.{HasLabelsInUse, IsOwn, is_used_in}
+use Rattle.module_flips.specs.Together.{free_slots}
 use Rattle.label_sets.specs.Kept.{AllFree, HasFewMembers}
 use Rattle.label_sets.specs.Room.{HasRoom, HasSlotsWithin}
 use Rattle.label_sets.specs.Sets.{StoredSets, labels_in, platform_in}
@@ -37,17 +35,6 @@ slots_below test (suc slot) = slots_below test slot ++ (if test slot then slot �
 
 abbrev pub unwanted_slots : Platform → Labels → LoadedModule → List ℕ
 unwanted_slots platform labels loaded = slots_below (is_unwanted platform labels loaded) (module_in loaded).slots
-
-abbrev pub free_slots_of : ModuleArea → ℕ
-free_slots_of Missing = 0
-free_slots_of (WrongSize size) = 0
-free_slots_of (Uninit size) = 0
-free_slots_of (Foreign size) = 0
-free_slots_of (Ready area) = free_count area.free area.geometry.slots
-
--- the number of free slots of a module
-abbrev pub free_slots : LoadedModule → ℕ
-free_slots loaded = free_slots_of loaded.area
 
 -- A module has neither junk nor a dead label, and as many free slots as are left for new labels.
 pub record IsSwept (platform : Platform) (labels : Labels) (loaded : LoadedModule) : Type 0 where

@@ -8,6 +8,7 @@ mod lookups;
 mod read;
 mod room;
 mod sets;
+mod staging;
 mod sweep;
 mod views;
 

@@ -27,7 +27,6 @@ use Rattle.region_sets.specs.declared.modules.ModuleArea.TheVariants.{Missing, W
 use Rattle.region_sets.specs.Modules.{module_in, size_of_area, without_labels}
 use Rattle.region_sets.specs.Modules as loaded
 use Rattle.module_flips.specs.Flips.{HasLabelsInUse, IsAreaOf, IsSizedIn}
-use Rattle.label_sets.specs.Loads.{HasCause, area_by}
 use Rattle.module_flips.specs.Stored.{StandsIn, StoredAs}
 
 -- an area that is not Ready has no labels

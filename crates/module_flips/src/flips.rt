@@ -30,11 +30,7 @@ pub struct AreaFailed {
 }
 
 /// Frees slots in use of a module whose area is Ready.
-fn free_in<R: Rig>(
-    rig: &mut R,
-    loaded: &mut LoadedModule,
-    slots: &[u32],
-) -> Result<(), AreaFailed>
+fn free_in<R: Rig>(rig: &mut R, loaded: &mut LoadedModule, slots: &[u32]) -> Result<(), AreaFailed>
     requires ready { IsReadyArea loaded.old.area }
     requires used { All (λ slot. IsTrue (is_used_in loaded.old slot)) slots.now }
     requires own { IsOwn loaded.old }

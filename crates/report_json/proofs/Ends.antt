@@ -19,14 +19,15 @@ behind before front = (before ++ front, sym (append_assoc before front (codes "\
 pub ended : (reply : Reply) → IsEnded (reply_text reply)
 ended (Initialised dimm slots) =
     (codes "ok initialised dimm=" ++ handle_text dimm ++ codes " slots=" ++ decimal slots, refl)
-ended (Created uuid region offset len size spare) =
-    (codes "ok created uuid=" ++ uuid_text uuid
-        ++ codes " region=" ++ decimal region
-        ++ codes " offset=" ++ decimal offset
-        ++ codes " length=" ++ decimal len
-        ++ codes " size=" ++ decimal size
-        ++ codes " spare=" ++ decimal spare,
-        refl)
+ended (Created uuid region offset len size spare) = (
+  codes "ok created uuid=" ++ uuid_text uuid
+      ++ codes " region=" ++ decimal region
+      ++ codes " offset=" ++ decimal offset
+      ++ codes " length=" ++ decimal len
+      ++ codes " size=" ++ decimal size
+      ++ codes " spare=" ++ decimal spare,
+  refl,
+)
 ended (Destroyed uuid) = (codes "ok destroyed uuid=" ++ uuid_text uuid, refl)
 ended (Renamed uuid name) = (codes "ok renamed uuid=" ++ uuid_text uuid ++ codes " name=" ++ printed_name name, refl)
 ended (Released count) = (codes "ok released=" ++ decimal count, refl)

@@ -85,9 +85,7 @@ pub fn line_of(reply: &Reply) -> Option<ShortText>
             length,
             size,
             spare,
-        } => Some(created_line(
-            uuid, *region, *offset, *length, *size, *spare,
-        )),
+        } => Some(created_line(uuid, *region, *offset, *length, *size, *spare)),
         Reply::Destroyed { uuid } => Some(destroyed_line(uuid)),
         Reply::Renamed { uuid, name } => Some(renamed_line(uuid, name)),
         Reply::Released { labels } => Some(released_line(*labels)),

@@ -254,7 +254,8 @@ fn changes(rt: HostRuntime) {
         size: 4_194_304,
         spare: 508,
     };
-    let text = "ok created uuid=0f6b1a52-7c3e-4d28-9a41-5be0c7d2e813 region=1 offset=8589934592 length=2097152 \
+    let text =
+        "ok created uuid=0f6b1a52-7c3e-4d28-9a41-5be0c7d2e813 region=1 offset=8589934592 length=2097152 \
 size=4194304 spare=508\n";
     says_alone(&rt, &reply, text);
     let text = "ok destroyed uuid=0f6b1a52-7c3e-4d28-9a41-5be0c7d2e814\n";

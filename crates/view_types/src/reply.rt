@@ -11,7 +11,10 @@ use crate::views::RegionView;
 #[derive(Drop)]
 pub enum Reply {
     /// The area of the module was initialised, and has this number of slots.
-    Initialised { dimm: u32, slots: u32 },
+    Initialised {
+        dimm: u32,
+        slots: u32,
+    },
     /// A namespace was made. Offset and length are in bytes of each member's part, the size in bytes of all of them.
     /// `spare` is the least number of spare slots that a member has left.
     Created {
@@ -23,23 +26,41 @@ pub enum Reply {
         spare: u32,
     },
     /// The namespace was destroyed.
-    Destroyed { uuid: [u8; 16] },
+    Destroyed {
+        uuid: [u8; 16],
+    },
     /// The namespace has this name now, with zeros behind it.
-    Renamed { uuid: [u8; 16], name: [u8; 64] },
+    Renamed {
+        uuid: [u8; 16],
+        name: [u8; 64],
+    },
     /// So many held labels of the module were given up.
-    Released { labels: u32 },
+    Released {
+        labels: u32,
+    },
     /// Namespaces, by the index of their region, then by offset and uuid.
     Namespaces(List<Listed>),
     /// Regions by index, with neither namespaces nor free extents.
     Regions(List<RegionView>),
     /// The free extents of a region, and the size in bytes of the greatest namespace that they have room for.
-    Free { extents: List<Extent>, largest: u64 },
+    Free {
+        extents: List<Extent>,
+        largest: u64,
+    },
     /// The held labels of a module, and its spare slots.
-    HeldList { held: List<Held>, spare: u32 },
+    HeldList {
+        held: List<Held>,
+        spare: u32,
+    },
     /// The byte of a module behind a system physical address.
-    Module { dimm: u32, dpa: u64 },
+    Module {
+        dimm: u32,
+        dpa: u64,
+    },
     /// The system physical address of a module's byte.
-    Spa { spa: u64 },
+    Spa {
+        spa: u64,
+    },
     /// The bytes of modules behind a range, by position and then by address.
     Runs(List<Run>),
     Refused(Refusal),

@@ -1,0 +1,104 @@
+-- The free extents that are kept, after the table stayed, or a region gained a namespace.
+use Rattle.std.proofs.Common.{◌≡◌, ◌≢◌, inl, inr, ℕ, zero, suc, ◌+◌, ◌<◌, List, [], ◌∷◌, length, get_or, set, map, refl, sym, ap, subst, ◌∙◌, arith}
+use Rattle.std.specs.Prelude.{AllPairs}
+use Rattle.std.specs.List.{All, Contains}
+use Rattle.std.proofs.lemmas.Bool.{cases_eq, cases_lt}
+use Rattle.std.proofs.lemmas.List.{get_or-map, get_or-set_other, get_or-set_same, length-map, length-set}
+use Rattle.std.proofs.lemmas.List.Elements.{Contains-get_or}
+use Rattle.view_types.specs.declared.namespaces.Namespace.{Namespace}
+use Rattle.view_types.specs.Intervals.{AreMaximal, is_free, without_range}
+use Rattle.extent_alloc.specs.Free.{FreeSpace}
+use Rattle.module_labels.specs.Labels.{Labels}
+use Rattle.region_map.specs.declared.platform.Platform.{Platform}
+use Rattle.region_map.specs.declared.platform.Region.{Region}
+use Rattle.region_map.specs.Sound.{AreOrdered}
+use Rattle.label_table.specs.Belonging.{IsDisjoint}
+use Rattle.label_table.specs.Division.{AreFreeExtents, part_size}
+use Rattle.label_table.specs.Spaces.{Space}
+use Rattle.label_table.specs.Tables.{table}
+use Rattle.region_sets.specs.declared.modules.LoadedModule.{LoadedModule}
+use Rattle.region_sets.specs.declared.region.RegionLabels.{RegionLabels}
+use Rattle.region_sets.specs.Fates.{platform_of, region_in, with_regions}
+use Rattle.region_sets.specs.Modules.{labels_in}
+use Rattle.region_changes.specs.Spaces.{GainsNamespace}
+use Rattle.region_changes.proofs.FreeSpace.{extents-kept, gained-elsewhere, gained-extents}
+use Rattle.label_sets.specs.Kept.{AllFree, IsFree}
+
+-- regions of ascending index are apart
+ordered-apart : (rs : List Region) (i j : ℕ) (d : Region) → AreOrdered rs → i < j → j < length rs → (get_or rs i d).index < (get_or rs j d).index
+ordered-apart rs i j d pairs less lt = pairs i j d less lt
+
+pub regions-apart : (rs : List Region) (i j : ℕ) (d : Region) → AreOrdered rs → i < length rs → j < length rs → i ≢ j → get_or rs i d ≢ get_or rs j d
+regions-apart rs i j d pairs i_lt j_lt differ same = elim (cases_lt i j) [
+  | inl less ↦
+      let up : (get_or rs i d).index < (get_or rs j d).index = ordered-apart rs i j d pairs less j_lt in
+      let equal : (get_or rs i d).index ≡ (get_or rs j d).index = ap (λ (r : Region). r.index) same in
+      omega (arith, up, equal)
+  | inr more ↦
+      let up : (get_or rs j d).index < (get_or rs i d).index = ordered-apart rs j i d pairs (omega (arith, more, differ)) i_lt in
+      let equal : (get_or rs i d).index ≡ (get_or rs j d).index = ap (λ (r : Region). r.index) same in
+      omega (arith, up, equal)
+]
+
+module _ (ms : List LoadedModule) (rs : List RegionLabels) (free : List FreeSpace) (was : AllFree ms rs free) (disjoint : IsDisjoint (platform_of rs)) (now : List LoadedModule) (regions_now : List RegionLabels) (same : map region_in regions_now ≡ map region_in rs) where
+  each : length regions_now ≡ length rs
+  each = sym (length-map regions_now region_in) ∙ ap length same ∙ length-map rs region_in
+
+  there : (k : ℕ) (d : RegionLabels) → k < length rs → (get_or regions_now k d).region ≡ (get_or rs k d).region
+  there k d lt =
+      sym (get_or-map region_in regions_now k d d.region (subst (λ n. k < n) (sym each) lt)) ∙ ap (λ xs. get_or xs k d.region) same ∙ get_or-map region_in rs k d d.region lt
+
+  listed : (k : ℕ) (d : RegionLabels) → k < length rs → Contains (platform_of rs).regions (get_or rs k d).region
+  listed k d lt = subst (λ r. Contains (map region_in rs) r) (get_or-map region_in rs k d d.region lt) (Contains-get_or (map region_in rs) k d.region (subst (λ n. k < n) (sym (length-map rs region_in)) lt))
+
+  -- at one place
+  moved : (k : ℕ) (d : RegionLabels) (e : FreeSpace) → k < length rs → AreFreeExtents (platform_of rs) (labels_in now) (get_or rs k d).region e.extents → e.whole ≡ part_size (get_or rs k d).region
+      → IsFree now regions_now (get_or regions_now k d) e
+  moved k d e lt extents whole = record {
+    extents = subst (λ (regions : List Region). AreFreeExtents (with_regions regions) (labels_in now) (get_or regions_now k d).region e.extents) (sym same)
+        (subst (λ (r : Region). AreFreeExtents (platform_of rs) (labels_in now) r e.extents) (sym (there k d lt)) extents);
+    whole = whole ∙ ap part_size (sym (there k d lt));
+  }
+
+  -- the table stayed
+  pub free-kept : table (platform_of rs) (labels_in now) ≡ table (platform_of rs) (labels_in ms) → AllFree now regions_now free
+  free-kept table_same = record {
+    each = was.each ∙ sym each;
+    is = λ k d e lt.
+        let old : k < length rs = subst (λ n. k < n) each lt in
+        let had : IsFree ms rs (get_or rs k d) (get_or free k e) = was.is k d e old in
+        moved k d (get_or free k e) old (extents-kept (platform_of rs) disjoint (labels_in ms) (labels_in now) table_same (get_or rs k d).region (listed k d old) (get_or free k e).extents had.extents) had.whole;
+  }
+
+  -- the region at a place gained a namespace, whose range was taken out of its free extents
+  pub free-gained : (place : ℕ) (region : Region) (new : Space) (taken : FreeSpace) → place < length rs → ((d : RegionLabels) → (get_or rs place d).region ≡ region) → AreOrdered (map region_in rs)
+      → GainsNamespace (platform_of rs) region new (labels_in ms) (labels_in now)
+      → ((e : FreeSpace) → AreMaximal (get_or free place e).whole (without_range (is_free (get_or free place e).extents) new.offset new.length) taken.extents)
+      → ((e : FreeSpace) → taken.whole ≡ (get_or free place e).whole)
+      → AllFree now regions_now (set free place taken)
+  free-gained place region new taken within is ordered gains carved whole = record {
+    each = length-set free place taken ∙ was.each ∙ sym each;
+    is = λ k d e lt.
+        let old : k < length rs = subst (λ n. k < n) each lt in
+        let had : IsFree ms rs (get_or rs k d) (get_or free k e) = was.is k d e old in
+        elim (cases_eq k place) [
+          | inl here ↦
+              let region_is : (get_or rs k d).region ≡ region = ap (λ j. (get_or rs j d).region) here ∙ is d in
+              let found : get_or (set free place taken) k e ≡ taken = ap (λ j. get_or (set free place taken) j e) here ∙ get_or-set_same free place taken e (subst (λ n. place < n) (sym was.each) within) in
+              let before : AreFreeExtents (platform_of rs) (labels_in ms) region (get_or free place e).extents =
+              subst (λ (r : Region). AreFreeExtents (platform_of rs) (labels_in ms) r (get_or free place e).extents) region_is (subst (λ j. AreFreeExtents (platform_of rs) (labels_in ms) (get_or rs k d).region (get_or free j e).extents) here had.extents) in
+              let whole_is : (get_or free place e).whole ≡ part_size region = sym (ap (λ j. (get_or free j e).whole) here) ∙ had.whole ∙ ap part_size region_is in
+              let after : AreFreeExtents (platform_of rs) (labels_in now) region taken.extents =
+              gained-extents (platform_of rs) region new (labels_in ms) (labels_in now) gains (get_or free place e).extents taken.extents before
+              (subst (λ n. AreMaximal n (without_range (is_free (get_or free place e).extents) new.offset new.length) taken.extents) whole_is (carved e)) in
+              subst (IsFree now regions_now (get_or regions_now k d)) (sym found)
+              (moved k d taken old (subst (λ (r : Region). AreFreeExtents (platform_of rs) (labels_in now) r taken.extents) (sym region_is) after) (whole e ∙ whole_is ∙ ap part_size (sym region_is)))
+          | inr differ ↦
+              let other : (get_or rs k d).region ≢ region = λ same_region.
+              regions-apart (map region_in rs) k place d.region ordered (subst (λ n. k < n) (sym (length-map rs region_in)) old) (subst (λ n. place < n) (sym (length-map rs region_in)) within) differ
+              (get_or-map region_in rs k d d.region old ∙ same_region ∙ sym (is d) ∙ sym (get_or-map region_in rs place d d.region within)) in
+              subst (IsFree now regions_now (get_or regions_now k d)) (sym (get_or-set_other free place k taken e differ))
+              (moved k d (get_or free k e) old
+              (gained-elsewhere (platform_of rs) region new (labels_in ms) (labels_in now) gains (get_or rs k d).region (listed k d old) other (get_or free k e).extents had.extents) had.whole)
+        ];
+  }

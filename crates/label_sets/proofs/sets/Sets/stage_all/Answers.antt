@@ -1,0 +1,77 @@
+use Rattle.std.proofs.Common.{◌≡◌, List, length, map, Some, true, sym, ap, subst, ◌∙◌, refl}
+use Rattle.std.specs.List.{All}
+use Rattle.std.specs.Option.{option_copied}
+use Rattle.std.specs.Result.{OnOk}
+use Rattle.std.specs.Vec.{with_items}
+use Rattle.extent_alloc.specs.Free.{FreeSpace}
+use Rattle.region_map.specs.declared.platform.Region.{Region}
+use Rattle.region_map.specs.Platforms.{region_at}
+use Rattle.region_sets.specs.declared.modules.LoadedModule.{LoadedModule}
+use Rattle.region_sets.specs.declared.region.RegionLabels.{RegionLabels}
+use Rattle.region_sets.specs.Fates.{platform_of, region_in, with_regions}
+use Rattle.region_sets.specs.Modules.{dimm_of}
+use Rattle.module_flips.specs.Together.{IsTogether, StaysTogether}
+use Rattle.module_flips.specs.Stored.{StandsIn}
+use Rattle.label_sets.specs.Kept.{AllFree, shown}
+use Rattle.label_sets.specs.Sets.{StoredSets, platform_in}
+use Rattle.label_sets.specs.Staging.{CanStageAt, CanStageIn}
+use Rattle.label_sets.specs.Views.{IsPlaceOf}
+use Rattle.label_sets.proofs.Stageable.{can-stage}
+use Rattle.label_sets.proofs.Written.{back-is, few-still, same-count, slots-still}
+use Rattle.label_sets.proofs.sets.Sets.stage_all.Goals as goal
+
+pub stage_in-requires-clause-stage : goal.stage_in-requires-clause-stage
+stage_in-requires-clause-stage g c =
+    let kept = c.self.invariant in
+    let ms = c.self.inside.modules.items in
+    let rs = c.self.inside.regions.items in
+    let fs = c.self.inside.free.items in
+    let r = c.in-Some-Some.found.now in
+    let same : c.args.platform.now.regions ≡ map region_in rs = c.requires.platform ∙ sym (ap (λ (s : StoredSets). s.regions) c.self.view_is) in
+    let there : region_at c.args.platform.now c.args.region ≡ Some r = sym c.region.ensures ∙ ap option_copied c.in-Some-Some.is-0 in
+    let found : region_at (platform_of rs) c.args.region ≡ Some r = ap (λ (regions : List Region). region_at (with_regions regions) c.args.region) (sym same) ∙ there in
+    let is_place : IsPlaceOf (map region_in rs) c.args.region (Some c.in-Some-Some.place) =
+    subst (λ xs. IsPlaceOf (map region_in xs) c.args.region (Some c.in-Some-Some.place)) c.deref.ensures.value (subst (IsPlaceOf (map region_in c.deref.result.now) c.args.region) c.in-Some-Some.is-1 c.place_of.ensures) in
+    let can : CanStageIn (shown c.self.inside) c.args.space.now r =
+    subst (λ (s : StoredSets). CanStageIn s c.args.space.now r) (sym c.self.view_is)
+    (c.requires.stage r (ap (λ (s : StoredSets). region_at (platform_in s) c.args.region) (sym c.self.view_is) ∙ found)) in
+    let together : IsTogether ms rs = record { once = kept.once; own = kept.own; in_use = kept.in_use; disjoint = kept.disjoint; over = kept.over } in
+    let stage : CanStageAt ms rs fs c.in-Some-Some.place r c.args.space.now =
+    can-stage c.args.platform.now c.requires.sound ms rs same c.args.region c.in-Some-Some.place r found is_place fs c.args.space.now together kept.free (kept.room (ap (λ (s : StoredSets). s.room) c.self.view_is ∙ c.requires.room))
+    can.ready can.fresh can.free can.is_open can.long in
+    subst (λ xs. CanStageAt xs c.deref_mut-2.result.now c.deref_mut-3.result.now c.in-Some-Some.place r c.args.space.now) (sym c.deref_mut.ensures.value)
+    (subst (λ ys. CanStageAt ms ys c.deref_mut-3.result.now c.in-Some-Some.place r c.args.space.now) (sym c.deref_mut-2.ensures.value)
+    (subst (λ zs. CanStageAt ms rs zs c.in-Some-Some.place r c.args.space.now) (sym c.deref_mut-3.ensures.value) stage))
+
+pub invariant_of-self : goal.invariant_of-self
+invariant_of-self g c =
+    let kept = c.self.invariant in
+    let ms = c.self.inside.modules in
+    let rs = c.self.inside.regions in
+    let fs = c.self.inside.free in
+    let together = c.stage_in.ensures.together in
+    let m : c.stage_in.new.modules ≡ (with_items ms c.stage_in.new.modules).items = sym (back-is ms c.stage_in.new.modules c.deref_mut.result.now c.deref_mut.ensures.value (same-count dimm_of _ _ together.dimms)) in
+    let r : c.stage_in.new.regions ≡ (with_items rs c.stage_in.new.regions).items = sym (back-is rs c.stage_in.new.regions c.deref_mut-2.result.now c.deref_mut-2.ensures.value (same-count region_in _ _ together.same_regions)) in
+    let each : length c.stage_in.new.free ≡ length c.deref_mut-3.result.now =
+    c.stage_in.ensures.free.each ∙ same-count region_in _ _ together.same_regions ∙ ap length c.deref_mut-2.ensures.value ∙ sym kept.free.each ∙ ap length (sym c.deref_mut-3.ensures.value) in
+    let f : c.stage_in.new.free ≡ (with_items fs c.stage_in.new.free).items = sym (back-is fs c.stage_in.new.free c.deref_mut-3.result.now c.deref_mut-3.ensures.value each) in
+    let all : IsTogether (with_items ms c.stage_in.new.modules).items (with_items rs c.stage_in.new.regions).items = subst (λ xs. IsTogether xs (with_items rs c.stage_in.new.regions).items) m (subst (IsTogether c.stage_in.new.modules) r together.together) in
+    record {
+      once = all.once;
+      own = all.own;
+      in_use = all.in_use;
+      disjoint = all.disjoint;
+      over = all.over;
+      free = subst (λ xs. AllFree xs (with_items rs c.stage_in.new.regions).items (with_items fs c.stage_in.new.free).items) m
+          (subst (λ ys. AllFree c.stage_in.new.modules ys (with_items fs c.stage_in.new.free).items) r (subst (AllFree c.stage_in.new.modules c.stage_in.new.regions) f c.stage_in.ensures.free));
+      few = few-still _ rs.items (ap (map region_in) (sym r) ∙ together.same_regions ∙ ap (map region_in) c.deref_mut-2.ensures.value) kept.few;
+      slots = slots-still _ _ ms.items (ap (map _) (sym m) ∙ together.slots ∙ ap (map _) c.deref_mut.ensures.value) kept.slots;
+      lost = slots-still _ _ ms.items (ap (map _) (sym m) ∙ together.slots ∙ ap (map _) c.deref_mut.ensures.value) kept.lost;
+      room = λ has. absurd cc;
+    }
+
+pub returns-clause-stands : goal.returns-clause-stands
+returns-clause-stands g c = λ told all.
+    let ms : c.args.self.now.modules ≡ c.deref_mut.result.now = sym (c.deref_mut.ensures.value ∙ ap (λ (s : StoredSets). s.modules) c.self.view_is) in
+    subst (λ xs. OnOk c.stage_in.result (All (StandsIn (g.R.Shown.areas c.stage_in.new.rig)) xs)) (sym (back-is c.self.inside.modules c.stage_in.new.modules c.deref_mut.result.now c.deref_mut.ensures.value (same-count dimm_of _ _ c.stage_in.ensures.together.dimms)))
+    (c.stage_in.ensures.stands told (subst (All (StandsIn (g.R.Shown.areas c.args.rig.now))) ms all))

@@ -1,0 +1,153 @@
+//! The first pass of making a namespace.
+
+ghost use Rattle.std.specs.Prelude.{◌≡◌, ◌+◌, ◌<◌, ◌^◌, IsSome, IsTrue, OnErr, OnOk, false, length, map, true};
+ghost use Rattle.std.specs.List.{All};
+ghost use Rattle.view_types.specs.Intervals.{AllFree, AreMaximal, is_free, without_range};
+ghost use Rattle.rig_trait.specs.Frames.{IsTold, LeavesOnly};
+ghost use Rattle.region_map.specs.Platforms.{IsSound, region_at};
+ghost use Rattle.label_table.specs.Tables.{state, with_namespace};
+ghost use Rattle.region_sets.specs.Fates.{platform_of};
+ghost use Rattle.region_sets.specs.Modules.{dimm_of, labels_in};
+ghost use Rattle.region_sets.specs.Regions.{handles};
+ghost use Rattle.module_flips.specs.Flips.{IsSizedIn};
+ghost use Rattle.module_flips.specs.Stops.{HasAreaCause, LeftIn, WritesAmong};
+ghost use Rattle.module_flips.specs.Stored.{StandsIn};
+ghost use Rattle.module_flips.specs.Together.{StaysTogether};
+ghost use Rattle.namespace_staging.specs.Staged.{IsBeforeOrWith, new_space};
+ghost use Rattle.namespace_staging.specs.Staging.{IsStaged};
+ghost use Rattle.label_sets.specs.Kept as kept;
+ghost use Rattle.label_sets.specs.Staging.{CanStageAt};
+
+use crate::sets::Sets;
+use crate::views::place_of;
+use extent_alloc::{Extents, Steps};
+use module_flips::AreaFailed;
+use namespace_staging::stage_labels;
+use region_map::{Platform, Region};
+use region_sets::{LoadedModule, RegionLabels};
+use rig_trait::Rig;
+use std::marker::Brand;
+use std::sync::ledger::{Blank, Ledger};
+use view_types::Namespace;
+
+impl Sets {
+    ghost use Rattle.region_sets.specs.Modules.{size_in};
+    ghost use Rattle.label_sets.specs.Sets as sets;
+    ghost use Rattle.label_sets.specs.Sets.{platform_in, state_in};
+    ghost use Rattle.label_sets.specs.Staging.{CanStageIn, GivesSlots, OfRegion};
+
+    /// Puts a label of a new namespace, marked as being changed, into the module of each member of a region, by
+    /// position and one flip each. By the last one the namespace stands, and is pending. It needs the platform whose
+    /// state this is, `reserve`, and an offset and a length that are common free; it takes no memory. `pending` and
+    /// `read_only` of `space` are not looked at. A stop at any moment leaves areas that stand for the state before, or
+    /// for that with the namespace. `Err` where the rig failed.
+    pub fn stage_all<R: Rig>(
+        &mut self,
+        rig: &mut R,
+        platform: &Platform,
+        region: u16,
+        space: &Namespace,
+    ) -> Result<(), AreaFailed>
+        requires sound { IsSound platform.now }
+        requires platform { platform.now.regions ≡ self.old.regions }
+        requires found { IsSome (region_at (platform_in self.old) region) }
+        requires stage { OfRegion self.old region (CanStageIn self.old space.now) }
+        requires room { self.old.room ≡ true }
+        requires sized { IsTold R.Shown rig.old → All (IsSizedIn (R.areas rig.old)) self.old.modules }
+        ensures staged { OfRegion self.old region (λ found. OnOk result
+            (state_in self.new ≡ with_namespace found (new_space space.now) (state_in self.old))) }
+        ensures slots { OfRegion self.old region (λ found. OnOk result (GivesSlots self.old self.new found)) }
+        ensures failed { OnErr result (state_in self.new ≡ state_in self.old) }
+        ensures regions { self.new.regions ≡ self.old.regions }
+        ensures room { self.new.room ≡ false }
+        ensures dimms { map dimm_of self.new.modules ≡ map dimm_of self.old.modules }
+        ensures sizes { map size_in self.new.modules ≡ map size_in self.old.modules }
+        ensures stands { IsTold R.Shown rig.old → All (StandsIn (R.areas rig.old)) self.old.modules
+            → OnOk result (All (StandsIn (R.areas rig.new)) self.new.modules) }
+        ensures any_moment { OfRegion self.old region (λ found. IsTold R.Shown rig.old
+            → All (StandsIn (R.areas rig.old)) self.old.modules
+            → LeavesOnly R.Shown rig.old rig.new (LeftIn (map dimm_of self.old.modules) (R.said rig.old)
+            (IsBeforeOrWith (platform_in self.old) found (new_space space.now) (sets.labels_in self.old)))) }
+        ensures writes_among { OfRegion self.old region (λ found. WritesAmong (handles found) R.Shown rig.old rig.new) }
+        ensures cause { OfRegion self.old region (λ found.
+            HasAreaCause (handles found) R.Shown rig.old rig.new result) }
+        ensures reads { R.reads rig.new ≡ R.reads rig.old }
+    {
+        self.room = false;
+        let (Some(found), Some(place)) = (
+            platform.region(region),
+            place_of(&self.regions, region),
+        ) else {
+            unreachable!()
+        };
+        stage_in(
+            rig,
+            &mut self.modules,
+            &mut self.regions,
+            &mut self.free,
+            place,
+            found,
+            space,
+        )
+    }
+}
+
+/// Stages a namespace in the region at a place, and takes its range out of the region's free space.
+fn stage_in<R: Rig>(
+    rig: &mut R,
+    modules: &mut [LoadedModule],
+    regions: &mut [RegionLabels],
+    free: &mut [Extents],
+    place: usize,
+    region: &Region,
+    space: &Namespace,
+) -> Result<(), AreaFailed>
+    requires stage { CanStageAt modules.old regions.old free.old place region.now space.now }
+    requires sized { IsTold R.Shown rig.old → All (IsSizedIn (R.areas rig.old)) modules.old }
+    ensures staged { OnOk result (IsStaged modules.old regions.old region.now (new_space space.now) modules.new) }
+    ensures failed { OnErr result (state (platform_of regions.old) (labels_in modules.new)
+        ≡ state (platform_of regions.old) (labels_in modules.old)) }
+    ensures together { StaysTogether modules.old regions.old modules.new regions.new }
+    ensures free { kept.AllFree modules.new regions.new free.new }
+    ensures stands { IsTold R.Shown rig.old → All (StandsIn (R.areas rig.old)) modules.old
+        → OnOk result (All (StandsIn (R.areas rig.new)) modules.new) }
+    ensures any_moment { IsTold R.Shown rig.old → All (StandsIn (R.areas rig.old)) modules.old
+        → LeavesOnly R.Shown rig.old rig.new (LeftIn (map dimm_of modules.old) (R.said rig.old)
+        (IsBeforeOrWith (platform_of regions.old) region.now (new_space space.now) (labels_in modules.old))) }
+    ensures writes_among { WritesAmong (handles region.now) R.Shown rig.old rig.new }
+    ensures cause { HasAreaCause (handles region.now) R.Shown rig.old rig.new result }
+    ensures reads { R.reads rig.new ≡ R.reads rig.old }
+{
+    match stage_labels(rig, modules, regions, region, space) {
+        Ok(()) => {
+            take_range(&mut free[place], space.offset, space.length);
+            Ok(())
+        }
+        Err(failed) => Err(failed),
+    }
+}
+
+/// Takes a range out of the free space of a region.
+fn take_range(free: &mut Extents, start: u64, len: u64)
+    requires some { 0 < len }
+    requires free { AllFree (is_free free.old.extents) start len }
+    requires spare { 0 < free.old.spare }
+    ensures taken { AreMaximal free.old.whole (without_range (is_free free.old.extents) start len) free.new.extents }
+    ensures whole { free.new.whole ≡ free.old.whole }
+{
+    take_range_by::<Brand>(free, start, len, Blank::new(1));
+}
+
+/// The same, with a counter of steps that nobody asks for.
+fn take_range_by<L: Ledger>(free: &mut Extents, start: u64, len: u64, blank: Blank)
+    requires name { blank.name ≡ L.name }
+    requires parts { blank.parts ≡ L.parts }
+    requires one { 0 < blank.parts }
+    requires some { 0 < len }
+    requires free { AllFree (is_free free.old.extents) start len }
+    requires spare { 0 < free.old.spare }
+    ensures taken { AreMaximal free.old.whole (without_range (is_free free.old.extents) start len) free.new.extents }
+    ensures whole { free.new.whole ≡ free.old.whole }
+{
+    free.carve(start, len, &mut Steps::<L>::new(blank));
+}

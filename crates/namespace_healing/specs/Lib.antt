@@ -1,0 +1,4 @@
+pub mod Labels
+pub mod Namespaces
+pub mod Healing
+pub mod Passes
