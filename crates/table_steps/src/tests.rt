@@ -1,3 +1,6 @@
+ghost use Rattle.std.specs.Prelude.{IfOk};
+ghost use Rattle.table_steps.specs.Plain.{HasFewModules};
+
 use super::*;
 use label_codec::{Label, UPDATING};
 use label_table::ModuleLabels;
@@ -27,7 +30,9 @@ fn member(handle: u32) -> Member {
 }
 
 /// A region of 128 MiB over the modules 0x1 and 0x101.
-fn region(rt: &HostRuntime) -> Result<Region, AllocError> {
+fn region(rt: &HostRuntime) -> Result<Region, AllocError>
+    ensures { IfOk result HasFewModules }
+{
     let mut members = List::new(rt.alloc());
     members.push(member(0x1))?;
     members.push(member(0x101))?;
