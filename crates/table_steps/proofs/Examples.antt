@@ -40,6 +40,20 @@ region_of_two size = record {
 abbrev pub platform_of : Region → Platform
 platform_of region = record { regions = region ∷ []; modules = 0x1 ∷ 0x101 ∷ []; tables = [] }
 
+-- one module of 64 MiB
+abbrev pub single_region : Region
+single_region = record {
+  index = 1;
+  spa = 0x100000000;
+  length = 67108864;
+  rule = None;
+  members = member 0x1 0 67108864 ∷ [];
+  cookie = 0x0000a3de00001235;
+}
+
+abbrev pub single : Platform
+single = record { regions = single_region ∷ []; modules = 0x1 ∷ []; tables = [] }
+
 -- 64 MiB and 64 GiB of each module
 abbrev pub small : Platform
 small = platform_of (region_of_two 67108864)

@@ -15,7 +15,7 @@ use Rattle.label_table.proofs.ListTests.{lt_from}
 use Rattle.table_steps.specs.Create.{create_refusals, created, part_length, with_made}
 use Rattle.table_steps.specs.Initialise.{initialise_refusals, initialised}
 use Rattle.table_steps.specs.Refusals.{first_of}
-use Rattle.table_steps.proofs.Examples.{asked, db0, db1, empty, empty_area, first_uuid, great, no_label, no_name, ready_area, region, region_of_two, second_uuid, small, two_modules, with_one}
+use Rattle.table_steps.proofs.Examples.{asked, db0, db1, empty, empty_area, first_uuid, great, no_label, no_name, ready_area, region, region_of_two, second_uuid, single, single_region, small, two_modules, with_one}
 
 -- the free extents of an empty region
 abbrev all_of : ℕ → List Extent
@@ -35,6 +35,11 @@ all-free n o lt = let t : nat_lt o n ≡ true = lt_from o n lt in λ i. t i && t
 
 great-fits : IsFirstFit (is_common_free great (empty 510) (region_of_two 68719476736)) (part_length (asked 17179869184 db0 first_uuid) (region_of_two 68719476736)) alignment 0
 great-fits = record { multiple = refl; free_from = λ o ge lt. all-free 68719476736 o (omega arith); least = λ p multiple free. omega arith }
+
+-- A region of one module, in whose area two labels have room.
+single-rows : (first_of (create_refusals single (empty 2) (all_of 67108864) (asked 4194304 db0 first_uuid)) ≡ None)
+    × (created (asked 4194304 db0 first_uuid) single_region 0 (with_made (asked 4194304 db0 first_uuid) single_region 0 (tables.state single (empty 2))) ≡ Created first_uuid 1 0 4194304 4194304 1)
+single-rows = (refl, refl)
 
 -- All of a region, and then no more.
 small-accepted : first_of (create_refusals small (empty 510) (all_of 67108864) (asked 134217728 no_name first_uuid)) ≡ None
