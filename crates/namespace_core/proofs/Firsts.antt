@@ -4,7 +4,7 @@ use Rattle.std.specs.Option.{option_or}
 use Rattle.view_types.specs.declared.refusal.Refusal.{Refusal}
 use Rattle.region_map.specs.declared.platform.Platform.{Platform}
 use Rattle.spa_translate.specs.Woven.{Woven}
-use Rattle.namespace_core.specs.Refusals.{first_of, unknown_region, unusable}
+use Rattle.table_steps.specs.Refusals.{first_of, unknown_region, unusable}
 use Rattle.namespace_core.specs.Translations.{IsWoven, no_translation, untranslated}
 
 or_more : (a b c : Option Refusal) (more : Option Refusal) (refusal : Refusal) → option_or a (option_or b (option_or c None)) ≡ Some refusal → option_or a (option_or b (option_or c more)) ≡ Some refusal

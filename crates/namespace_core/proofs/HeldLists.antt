@@ -1,8 +1,7 @@
 -- The held labels of a module, or why they are not listed.
-use Rattle.std.proofs.Common.{◌≡◌, ◌≢◌, ℕ, ◌==◌, ◌⊎◌, inl, inr, Bool, true, false, not, List, [], ◌∷◌, map, find, is_some, if◌then◌else◌, Option, Some, None, refl, sym, ap, subst, ◌∙◌}
+use Rattle.std.proofs.Common.{◌≡◌, ◌≢◌, ℕ, ◌==◌, ◌⊎◌, inl, inr, true, false, List, [], ◌∷◌, map, find, is_some, if◌then◌else◌, Option, Some, None, refl, sym, ap, subst, ◌∙◌}
 use Rattle.std.specs.List.{list_any}
 use Rattle.std.specs.List.Sorted.{IsPermutation}
-use Rattle.view_types.specs.declared.namespaces.Held.{Held}
 use Rattle.view_types.specs.declared.refusal.Refusal.TheVariants.{NotReady, UnknownDimm}
 use Rattle.view_types.specs.declared.reply.Reply.TheVariants.{HeldList, Refused}
 use Rattle.view_types.specs.declared.states.AreaState.{AreaState}
@@ -11,19 +10,20 @@ use Rattle.view_types.specs.declared.states.Status.TheVariants.{Area}
 use Rattle.view_types.specs.declared.views.ModuleView.{ModuleView}
 use Rattle.module_labels.specs.declared.kind.AreaKind.{AreaKind}
 use Rattle.module_labels.specs.declared.kind.AreaKind.TheVariants as kind
-use Rattle.module_labels.specs.Labels.{Labels, Module, is_ready}
+use Rattle.module_labels.specs.Labels.{Module, is_ready}
 use Rattle.region_map.specs.declared.platform.Platform.{Platform}
 use Rattle.region_map.specs.declared.platform.Region.{Region}
 use Rattle.label_table.proofs.ListTests.{both, eq_true, find-some}
 use Rattle.label_table.specs.Fates.{spare}
 use Rattle.region_sets.specs.declared.modules.LoadedModule.{LoadedModule}
 use Rattle.region_sets.specs.Fates.{with_regions}
-use Rattle.region_sets.specs.Held.{AreHeldIn, held_below, spare_in}
+use Rattle.region_sets.specs.Held.{held_below, spare_in}
 use Rattle.region_sets.specs.Modules.{dimm_of, is_of, module_in, module_or_missing}
 use Rattle.region_sets.specs.Statuses.{unready_state}
 use Rattle.label_sets.specs.Sets.{StoredSets, labels_in, platform_in}
-use Rattle.label_sets.specs.Views.{IsModuleView, IsModuleViewOf, area_state}
-use Rattle.namespace_core.specs.Lists.{AreHeldOf, IsHeld, IsStateOf, area_by}
+use Rattle.label_sets.specs.Views.{IsModuleView, IsModuleViewOf}
+use Rattle.table_steps.specs.Refusals.{area_by}
+use Rattle.namespace_core.specs.Lists.{IsHeld, IsStateOf}
 
 -- a module is known by its handle where it is found
 known_where : (dimm : ℕ) (modules : List LoadedModule) → list_any (λ handle. handle == dimm) (map dimm_of modules) ≡ is_some (find (is_of dimm) modules)

@@ -3,3 +3,5 @@ pub mod Parts
 pub mod Unread
 pub mod ListedSpaces
 pub mod HeldLists
+pub mod LookUps
+pub mod Holding

@@ -1,6 +1,5 @@
 -- The namespaces of a region, as they are listed.
-use Rattle.std.proofs.Common.{◌≡◌, ℕ, List, [], ◌∷◌, length, map, Option, Some, refl, sym, ap, ◌∙◌}
-use Rattle.view_types.specs.declared.namespaces.Listed.{Listed}
+use Rattle.std.proofs.Common.{◌≡◌, ℕ, List, [], ◌∷◌, length, map, Some, refl, sym, ap, ◌∙◌}
 use Rattle.view_types.specs.declared.views.RegionView.{RegionView}
 use Rattle.module_labels.specs.Labels.{Labels}
 use Rattle.region_map.specs.declared.platform.Platform.{Platform}

@@ -1,7 +1,6 @@
 -- What is told of a region, or why nothing is.
-use Rattle.std.proofs.Common.{◌≡◌, ℕ, List, [], ◌∷◌, Option, Some, None, refl, sym, ap, subst, ◌∙◌}
+use Rattle.std.proofs.Common.{◌≡◌, ℕ, List, Option, Some, None, refl, sym, ap, subst, ◌∙◌}
 use Rattle.std.specs.Option.{option_map, option_or}
-use Rattle.view_types.specs.declared.refusal.Refusal.{Refusal}
 use Rattle.view_types.specs.declared.refusal.Refusal.TheVariants.{UnknownRegion, Unusable}
 use Rattle.view_types.specs.declared.rule.Rule.{Rule}
 use Rattle.view_types.specs.declared.views.RegionView.{RegionView}
@@ -20,8 +19,8 @@ use Rattle.label_sets.specs.Largest.{IsLargestOf, TellsLargest}
 use Rattle.label_sets.specs.Views.{IsRegionView, IsViewOf, ShowsFree}
 use Rattle.label_table.specs.Division.{AreFreeExtents}
 use Rattle.view_types.specs.declared.reply.Reply.TheVariants.{Free}
-use Rattle.namespace_core.specs.Lists.{IsFree, IsReadyView, IsStateOf, not_ready_by, refusal_by, unread}
-use Rattle.namespace_core.specs.Refusals.{first_of}
+use Rattle.table_steps.specs.Refusals.{first_of, not_ready_by}
+use Rattle.namespace_core.specs.Lists.{IsFree, IsReadyView, IsStateOf, refusal_by, unread}
 
 -- the refusals behind that of an unknown region are those of the status
 clash_refusal : (clash : Option (List ℕ × List ℕ)) → option_or (not_ready_by (status_by_clash clash)) None ≡ refusal_by (shown_status (status_by_clash clash))

@@ -1,7 +1,6 @@
 -- The commands that list the state of the label storage areas: why each is refused, in order, and its reply where nothing
 -- refuses it.
-use Rattle.std.specs.Prelude.{◌≡◌, ℕ, ◌^◌, ◌-◌, ◌==◌, List, [], ◌∷◌, ◌++◌, Option, Some, None, length, map, min, not}
-use Rattle.std.specs.List.{list_any}
+use Rattle.std.specs.Prelude.{◌≡◌, ℕ, ◌^◌, ◌-◌, List, [], ◌∷◌, ◌++◌, Option, Some, None, length, map, min}
 use Rattle.std.specs.List.Sorted.{IsPermutation, IsSortedByKey}
 use Rattle.view_types.specs.declared.extents.Extent.{Extent}
 use Rattle.view_types.specs.declared.namespaces.Held.{Held}
@@ -9,14 +8,12 @@ use Rattle.view_types.specs.declared.namespaces.Listed.{Listed}
 use Rattle.view_types.specs.declared.namespaces.Namespace.{Namespace}
 use Rattle.view_types.specs.declared.refusal.Refusal.{Refusal}
 use Rattle.view_types.specs.declared.refusal.Refusal.TheVariants as refusals
-use Rattle.view_types.specs.declared.refusal.Refusal.TheVariants.{NotReady, UnknownDimm}
+use Rattle.view_types.specs.declared.refusal.Refusal.TheVariants.{NotReady}
 use Rattle.view_types.specs.declared.reply.Reply.{Reply}
 use Rattle.view_types.specs.declared.reply.Reply.TheVariants.{Namespaces, Regions, Free, HeldList}
 use Rattle.view_types.specs.declared.states.Status.{Status}
 use Rattle.view_types.specs.declared.states.Status.TheVariants as shown
 use Rattle.view_types.specs.declared.views.RegionView.{RegionView}
-use Rattle.module_labels.specs.declared.kind.AreaKind.{AreaKind}
-use Rattle.module_labels.specs.declared.kind.AreaKind.TheVariants as kind
 use Rattle.module_labels.specs.Labels.{Labels}
 use Rattle.region_map.specs.declared.platform.Platform.{Platform}
 use Rattle.region_map.specs.declared.platform.Region.{Region}
@@ -29,29 +26,20 @@ use Rattle.label_table.specs.Statuses.{AreaNotReady, Clash, RegionReady, RegionS
 use Rattle.region_sets.specs.Held.{held_below, held_key, key_cmp}
 use Rattle.region_sets.specs.Marks.{listed_in}
 use Rattle.region_sets.specs.Modules.{dimm_of}
-use Rattle.region_sets.specs.Statuses.{shown_status, unready_state}
-use Rattle.label_sets.specs.Sets.{StoredSets, labels_in}
+use Rattle.region_sets.specs.Statuses.{shown_status}
+use Rattle.label_sets.specs.Sets.{StoredSets}
 use Rattle.label_sets.specs.Views.{IsRegionView}
+use Rattle.table_steps.specs.Refusals.{IsReplyBy, area_not_ready, first_of, region_not_ready, unknown_dimm}
+use Rattle.table_steps.specs.Refusals.{unknown_region, unusable}
 use Rattle.namespace_core.specs.declared.lists.Query.{Query}
 use Rattle.namespace_core.specs.declared.lists.Query.TheVariants as queries
 use Rattle.namespace_core.specs.declared.refusals.Unanswered.{Unanswered}
 use Rattle.namespace_core.specs.declared.refusals.Unanswered.TheVariants as unanswereds
-use Rattle.namespace_core.specs.Refusals.{IsReplyBy, by_region, first_of, refused_if, unknown_region, unusable}
 
 -- the state is that of the platform's modules
 pub record IsStateOf (platform : Platform) (sets : StoredSets) : Type 0 where
   pub regions : sets.regions ≡ platform.regions
   pub modules : map dimm_of sets.modules ≡ platform.modules
-
--- the cause for which a region that can be used is not Ready
-abbrev pub not_ready_by : RegionStatus → Option Refusal
-not_ready_by RegionReady = None
-not_ready_by (Unusable rule) = None
-not_ready_by (AreaNotReady handle kind) = Some (NotReady (shown.Area handle (unready_state kind)))
-not_ready_by (Clash first second) = Some (NotReady (shown.Clash first second))
-
-abbrev pub region_not_ready : Platform → Labels → ℕ → Option Refusal
-region_not_ready platform labels index = by_region platform index (λ region. not_ready_by (status labels region))
 
 -- what a command asks of the region whose state it tells
 abbrev pub unread : Platform → Labels → ℕ → List (Option Refusal)
@@ -147,21 +135,6 @@ pub record IsFreeOf (platform : Platform) (labels : Labels) (index : ℕ) (reply
 abbrev pub IsFree : Platform → Labels → ℕ → Reply → Type 0
 IsFree platform labels index reply =
     IsReplyBy (first_of (unread platform labels index)) (IsFreeOf platform labels index) reply
-
--- no module has the handle
-abbrev pub unknown_dimm : Platform → ℕ → Option Refusal
-unknown_dimm platform dimm = refused_if (not (list_any (λ handle. handle == dimm) platform.modules)) (UnknownDimm dimm)
-
--- its area is not Ready
-abbrev pub area_by : ℕ → AreaKind → Option Refusal
-area_by dimm kind.Ready = None
-area_by dimm kind.Missing = Some (NotReady (shown.Area dimm (unready_state kind.Missing)))
-area_by dimm kind.WrongSize = Some (NotReady (shown.Area dimm (unready_state kind.WrongSize)))
-area_by dimm kind.Uninit = Some (NotReady (shown.Area dimm (unready_state kind.Uninit)))
-area_by dimm kind.Foreign = Some (NotReady (shown.Area dimm (unready_state kind.Foreign)))
-
-abbrev pub area_not_ready : Labels → ℕ → Option Refusal
-area_not_ready labels dimm = area_by dimm (labels dimm).kind
 
 -- the held labels of a module, by address, size, uuid, flags and region
 pub record AreHeldOf (platform : Platform) (labels : Labels) (dimm : ℕ) (held : List Held) : Type 0 where

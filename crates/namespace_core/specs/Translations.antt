@@ -16,9 +16,9 @@ use Rattle.spa_translate.specs.Pairs.{IsPair, has_range, is_member}
 use Rattle.spa_translate.specs.Runs.{AreRuns}
 use Rattle.spa_translate.specs.Woven.{Woven}
 use Rattle.spa_translate.specs.declared.strand.Strand.{Strand}
+use Rattle.table_steps.specs.Refusals.{IsReplyBy, by_region, first_of, refused_if, unknown_region, unusable}
 use Rattle.namespace_core.specs.declared.refusals.Unanswered.{Unanswered}
 use Rattle.namespace_core.specs.declared.refusals.Unanswered.TheVariants as unanswereds
-use Rattle.namespace_core.specs.Refusals.{IsReplyBy, by_region, first_of, refused_if, unknown_region, unusable}
 
 -- its addresses cannot be translated
 abbrev pub no_translation : Platform → ℕ → Option Refusal

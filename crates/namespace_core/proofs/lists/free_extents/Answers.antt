@@ -1,5 +1,3 @@
-use Rattle.std.proofs.Common.{◌≡◌, Some, ap, sym, subst, ◌∙◌}
-use Rattle.view_types.specs.declared.reply.Reply.TheVariants.{Free}
 use Rattle.namespace_core.proofs.Unread.{free_is}
 use Rattle.namespace_core.proofs.lists.free_extents.Goals as goal
 

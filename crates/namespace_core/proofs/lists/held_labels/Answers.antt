@@ -1,10 +1,6 @@
-use Rattle.std.proofs.Common.{◌≡◌, Some, None, subst}
+use Rattle.std.proofs.Common.{Some, None, subst}
 use Rattle.label_sets.specs.Views.{ViewsModule}
-use Rattle.view_types.specs.declared.refusal.Refusal.TheVariants.{NotReady}
-use Rattle.view_types.specs.declared.reply.Reply.TheVariants.{Refused}
-use Rattle.view_types.specs.declared.states.Status.TheVariants.{Area}
-use Rattle.namespace_core.specs.Lists.{IsHeld}
-use Rattle.namespace_core.proofs.HeldLists.{IsKnownModule, held_is, known_module, unknown_module, unready_is}
+use Rattle.namespace_core.proofs.HeldLists.{held_is, known_module, unknown_module, unready_is}
 use Rattle.namespace_core.proofs.lists.held_labels.Goals as goal
 
 pub returns-in_default : goal.returns-in_default

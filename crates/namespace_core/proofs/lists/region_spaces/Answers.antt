@@ -1,4 +1,4 @@
-use Rattle.std.proofs.Common.{◌≡◌, ◌++◌, [], ap, sym, ◌∙◌}
+use Rattle.std.proofs.Common.{◌≡◌, ◌++◌, ap, ◌∙◌}
 use Rattle.view_types.specs.declared.reply.Reply.TheVariants.{Namespaces}
 use Rattle.namespace_core.specs.Lists.{listed_in_view}
 use Rattle.namespace_core.proofs.ListedSpaces.{ready_lists}

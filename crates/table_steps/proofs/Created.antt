@@ -1,0 +1,99 @@
+-- What an accepted create does.
+use Rattle.std.proofs.Common.{◌≡◌, ◌≢◌, inl, ℕ, ◌+◌, ◌-◌, ◌*◌, ◌%◌, ◌≤◌, ◌<◌, Bool, true, false, not, ◌&&◌, cond, List, Some, length, refl, sym, ap, ◌∙◌, arith}
+use Rattle.std.specs.Prelude.{◌==◌, nat_lt}
+use Rattle.std.specs.List.{Contains}
+use Rattle.std.specs.Str.{bytes_eq}
+use Rattle.std.proofs.lemmas.Bool.{and_parts}
+use Rattle.view_types.specs.declared.extents.Extent.{Extent}
+use Rattle.view_types.specs.declared.reply.Reply.{Reply}
+use Rattle.module_labels.specs.Labels.{Labels}
+use Rattle.region_map.specs.declared.platform.Member.{Member}
+use Rattle.region_map.specs.declared.platform.Platform.{Platform}
+use Rattle.region_map.specs.declared.platform.Region.{Region}
+use Rattle.label_table.specs.Belonging.{IsDisjoint}
+use Rattle.label_table.specs.Division.{IsOpen, alignment, is_common_free, is_held_at, namespaces_over, part_size}
+use Rattle.label_table.specs.Fates.{spare}
+use Rattle.label_table.specs.Spaces.{Space}
+use Rattle.label_table.specs.Statuses.{RegionReady, status}
+use Rattle.label_table.specs.Tables.{ChangesAt, State, changed_at, is_member, pending_at, state, table}
+use Rattle.label_table.proofs.ListTests.{eq_other, eq_same, eq_true, find-some, list_any-at}
+use Rattle.label_table.proofs.StatusLaws.{ready-with, status-elsewhere}
+use Rattle.table_steps.specs.declared.change.NewNamespace.{NewNamespace}
+use Rattle.table_steps.specs.Create.{Accepts, made, part_length}
+use Rattle.table_steps.proofs.Accepted.{IsUnrefused, unrefused}
+
+module _ (P : Platform) (L : Labels) (free : List Extent) (a : NewNamespace) (reply : Reply) (after : State) (c : Accepts P L free a reply after) where
+  abbrev r : Region
+  r = c.done.region
+
+  abbrev new : Space
+  new = made a r c.done.offset
+
+  u : IsUnrefused P L free a r
+  u = unrefused P L free a r c.done.found c.unrefused
+
+  in_P : Contains P.regions r
+  in_P = (find-some (λ (q : Region). q.index == a.region) P.regions r c.done.found).0
+
+  pub spaces : after.table.space ≡ changed_at r a.uuid (Some new) (table P L).space
+  spaces = ap (λ (s : State). s.table.space) c.done.after_is
+
+  pub kinds : after.table.kind ≡ (table P L).kind
+  kinds = ap (λ (s : State). s.table.kind) c.done.after_is
+
+  pub helds : after.table.held ≡ (table P L).held
+  helds = ap (λ (s : State). s.table.held) c.done.after_is
+
+  spare_by : (m : ℕ) (b : Bool) → is_member r m ≡ b → after.table.spare m ≡ spare P L m - cond b 1 0
+  spare_by m b e = ap (λ (s : State). s.table.spare m) c.done.after_is ∙ (λ i. spare P L m - cond {A = ℕ} (e i) 1 0)
+
+  pub spare_less : (x : Member) → Contains r.members x → after.table.spare x.handle + 1 ≡ spare P L x.handle
+  spare_less x in_r =
+      let member : is_member r x.handle ≡ true = list_any-at (λ (y : Member). y.handle == x.handle) r.members x in_r (eq_same x.handle x.handle refl) in
+      let less : after.table.spare x.handle ≡ spare P L x.handle - 1 = spare_by x.handle true member in
+      let two : 2 ≤ spare P L x.handle = u.spares x in_r in
+      omega (arith, less, two)
+
+  pub spare_other : (m : ℕ) → is_member r m ≡ false → after.table.spare m ≡ spare P L m
+  spare_other m n = let same : after.table.spare m ≡ spare P L m - 0 = spare_by m false n in omega (arith, same)
+
+  pub marks : (v : List ℕ) → after.pending r.index v ≡ false
+  marks v =
+      let here : (r.index == r.index) ≡ true = eq_same r.index r.index refl in
+      ap (λ (s : State). s.pending r.index v) c.done.after_is ∙ (λ i. cond (here i) false (cond (r.index == r.index && bytes_eq a.uuid v) true (pending_at P L r.index v)))
+
+  pub marks_other : (i : ℕ) (v : List ℕ) → i ≢ r.index → after.pending i v ≡ pending_at P L i v
+  marks_other i v other =
+      let away : (r.index == i) ≡ false = eq_other r.index i (λ e. other (sym e)) in
+      ap (λ (s : State). s.pending i v) c.done.after_is ∙ (λ j. cond (away j) false (cond (away j && bytes_eq a.uuid v) true (pending_at P L i v)))
+
+  pub multiple : c.done.offset % alignment ≡ 0
+  multiple = c.done.first.multiple
+
+  pub whole : length r.members * part_length a r ≡ a.size
+  whole = u.size.whole
+
+  pub some : 0 < part_length a r
+  some = u.size.some
+
+  pub was_free : (o : ℕ) → c.done.offset ≤ o → o < c.done.offset + part_length a r → is_common_free P L r o ≡ true
+  was_free o ge lt = c.done.first.free_from o ge lt
+
+  open_range : IsOpen L r new
+  open_range o ge lt =
+      let parts = and_parts (nat_lt o (part_size r)) (namespaces_over L r o == 0 && not (is_held_at P L r o)) (was_free o ge lt) in
+      inl (eq_true (namespaces_over L r o) 0 (and_parts (namespaces_over L r o == 0) (not (is_held_at P L r o)) parts.1).0)
+
+  changes : IsDisjoint P → (M : Labels) → state P M ≡ after → ChangesAt P r a.uuid (Some new) L M
+  changes disjoint M stands = record {
+    disjoint = disjoint;
+    region_in = in_P;
+    kinds = ap (λ (s : State). s.table.kind) stands ∙ kinds;
+    spaces = ap (λ (s : State). s.table.space) stands ∙ spaces;
+  }
+
+  pub ready : IsDisjoint P → (M : Labels) → state P M ≡ after → status M r ≡ RegionReady
+  ready disjoint M stands = ready-with P r new L M (changes disjoint M stands) some open_range u.ready
+
+  pub elsewhere : IsDisjoint P → (M : Labels) → state P M ≡ after → (q : Region) → Contains P.regions q → q ≢ r → status M q ≡ status L q
+  elsewhere disjoint M stands q in_q other = status-elsewhere P r a.uuid (Some new) L M (changes disjoint M stands) q in_q other

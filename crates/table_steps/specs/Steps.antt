@@ -1,0 +1,34 @@
+-- The step of a command that may change the state of the label storage areas. Of slots it tells only how many are
+-- spare.
+use Rattle.std.specs.Prelude.{◌≡◌, ℕ, List}
+use Rattle.std.specs.Option.{unwrap_or}
+use Rattle.view_types.specs.declared.reply.Reply.{Reply}
+use Rattle.module_labels.specs.Labels.{Labels}
+use Rattle.region_map.specs.declared.platform.Platform.{Platform}
+use Rattle.label_table.specs.Tables.{State, state}
+use Rattle.table_steps.specs.declared.change.Change.{Change}
+use Rattle.table_steps.specs.declared.change.Change.TheVariants.{Create, InitLabels}
+use Rattle.table_steps.specs.Create.{Creates}
+use Rattle.table_steps.specs.Initialise.{Initialises}
+
+-- What the command does where the labels of the modules are these. `slots` is how many slots the area of each module
+-- has room for, by handle, and `own` the uuid of a new namespace for which the command gives none.
+abbrev pub Does : Platform → (ℕ → ℕ) → Labels → Change → List ℕ → Reply → State → Type 0
+Does platform slots labels (InitLabels dimm) own reply after =
+    Initialises platform labels dimm (slots dimm) reply after
+Does platform slots labels (Create region size name abstraction sector uuid) own reply after =
+    Creates platform labels (record {
+      region = region;
+      size = size;
+      name = name;
+      abstraction = abstraction;
+      sector = sector;
+      uuid = unwrap_or uuid own;
+    }) reply after
+
+-- The step of a command from a state, which is that of some labels. Which labels does not matter: the laws say so.
+pub record IsStep (platform : Platform) (slots : ℕ → ℕ) (before : State) (change : Change) (own : List ℕ)
+    (reply : Reply) (after : State) : Type 0 where
+  pub labels : Labels
+  pub stands : state platform labels ≡ before
+  pub does : Does platform slots labels change own reply after

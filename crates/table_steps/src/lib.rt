@@ -1,0 +1,14 @@
+//! The step of each command that changes the label storage areas, on the table that their labels stand for (UEFI 2.7,
+//! section 13.19): why it is refused, what it changes, and its reply.
+#![tactic(auto)]
+
+mod change;
+mod laws;
+mod plain;
+
+pub use change::{Change, NewNamespace};
+pub use laws::{create_laws, initialise_laws, made_laws, range_laws, some_step_laws, step_laws};
+pub use plain::{bad_size, initialise, no_slots, spare, uuid_in_use};
+
+#[cfg(test)]
+mod tests;
