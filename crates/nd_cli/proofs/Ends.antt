@@ -68,6 +68,10 @@ unwritten_early (Err Memory) early = refl
 -- a list is no reply of an area that was initialised
 list-unwritten : (r : replies.Reply) → is_one_line r ≡ false → is_initialised r ≡ false
 list-unwritten (reply.Initialised dimm slots) is = absurd cc
+list-unwritten (reply.Created uuid region offset len size spare) is = refl
+list-unwritten (reply.Destroyed uuid) is = refl
+list-unwritten (reply.Renamed uuid name) is = refl
+list-unwritten (reply.Released count) is = refl
 list-unwritten (reply.Namespaces listed) is = refl
 list-unwritten (reply.Regions regions) is = refl
 list-unwritten (reply.Free extents largest) is = refl
@@ -80,6 +84,10 @@ list-unwritten (reply.Refused refusal) is = refl
 -- the status of a reply that is said
 reply_status : (r : replies.Reply) → reply_code r ≡ status_of (Replies (is_accepted r) (reply_text r))
 reply_status (reply.Initialised dimm slots) = refl
+reply_status (reply.Created uuid region offset len size spare) = refl
+reply_status (reply.Destroyed uuid) = refl
+reply_status (reply.Renamed uuid name) = refl
+reply_status (reply.Released count) = refl
 reply_status (reply.Namespaces listed) = refl
 reply_status (reply.Regions regions) = refl
 reply_status (reply.Free extents largest) = refl
