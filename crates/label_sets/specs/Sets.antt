@@ -26,9 +26,6 @@ labels_in sets = modules.labels_in sets.modules
 abbrev pub state_in : StoredSets → State
 state_in sets = state (platform_in sets) (labels_in sets)
 
-abbrev pub index_of : Region → ℕ
-index_of region = region.index
-
 abbrev pub sets_code : Coded StoredSets
 sets_code = code_by (List Region × (List LoadedModule × Bool))
     (coded× (coded_list region_code) (coded× (coded_list module_code) coded_bool))

@@ -1,8 +1,7 @@
 //! The state of all modules.
 
-ghost use Rattle.std.specs.Prelude.{◌≡◌, OnErr, OnOk, false, length, map, slice_get, true, vec_capacity};
+ghost use Rattle.std.specs.Prelude.{◌≡◌, OnErr, OnOk, false, map, true, vec_capacity};
 ghost use Rattle.std.specs.List.{All};
-ghost use Rattle.std.specs.Option.{option_map};
 ghost use Rattle.label_table.specs.Belonging.{IsDisjoint};
 ghost use Rattle.region_sets.specs.Fates.{platform_of, region_in};
 ghost use Rattle.region_sets.specs.Modules.{EachOnce};
@@ -10,7 +9,6 @@ ghost use Rattle.region_sets.specs.Regions.{IsOver};
 ghost use Rattle.module_flips.specs.Flips.{HasLabelsInUse, IsOwn};
 ghost use Rattle.label_sets.specs.Kept.{AllFree, HasFewMembers};
 ghost use Rattle.label_sets.specs.Room.{HasSlotsWithin};
-ghost use Rattle.label_sets.specs.Sets.{index_of};
 
 use crate::room::{reserve_extents, reserve_labels};
 use extent_alloc::Extents;
@@ -90,22 +88,5 @@ impl Sets {
         reserve_extents(&self.regions, &mut self.free)?;
         self.room = true;
         Ok(())
-    }
-
-    /// The number of regions.
-    pub fn region_count(&self) -> usize
-        ensures { result ≡ length self.now.regions }
-    {
-        self.regions.len()
-    }
-
-    /// The index of the region at a place among the regions. `None` exactly where there are not so many.
-    pub fn region_index(&self, at: usize) -> Option<u16>
-        ensures { result ≡ option_map index_of (slice_get self.now.regions at) }
-    {
-        match self.regions.get(at) {
-            Some(kept) => Some(kept.region.index),
-            None => None,
-        }
     }
 }

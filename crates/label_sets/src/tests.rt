@@ -5,22 +5,17 @@ use super::*;
 use label_area::Area;
 use nfit_tables::read_nfit;
 use region_map::Platform;
-use rig_trait::MemoryRig;
+use rig_trait::{Kept, MemoryRig};
 use std::alloc::{AllocError, Global};
 use std::process::Abort;
 use std::test::Fail;
-use test_areas::{BlockFields, LABEL, LabelFields, OTHER_GUID, nfit, two_modules};
+use test_areas::{BlockFields, LABEL, LabelFields, nfit, two_modules};
 use view_types::{AreaState, Extent, Held, Namespace, Status};
 
 const MIB: u64 = 0x10_0000;
 
 /// The size of each module's part of the region: 64 GiB.
 const PART: u64 = 0x10_0000_0000;
-
-const LAST: u64 = PART - 1;
-
-/// An address past all modules.
-const HIGH: u64 = 0xffff_ffff_ffff_ff00;
 
 const UPDATING: u32 = 8;
 
@@ -34,36 +29,23 @@ const UUID_14: [u8; 16] = *b"\x0f\x6b\x1a\x52\x7c\x3e\x4d\x28\x9a\x41\x5b\xe0\xc
 enum Stored {
     /// The last byte of its uuid, its position, its address and its size, and its flags.
     Label(u8, u16, u64, u64, u32),
-    /// One of position 0 that differs from `Label(0x13, 0, 0, 2 * MIB, 0)` in one field more.
-    OtherType,
-    OtherWays,
-    OtherPosition,
-    OtherCookie,
 }
 
-use Stored::{Label, OtherCookie, OtherPosition, OtherType, OtherWays};
+use Stored::Label;
 
 impl Stored {
     fn fields(self) -> LabelFields {
+        let Label(last, position, dpa, raw_size, flags) = self;
         let mut fields = LabelFields {
             nlabel: 2,
             cookie: 0x0002_e242_0000_346b,
-            raw_size: 2 * MIB,
+            position,
+            dpa,
+            raw_size,
+            flags,
             ..LABEL
         };
-        match self {
-            Label(last, position, dpa, raw_size, flags) => {
-                fields.uuid[15] = last;
-                fields.position = position;
-                fields.dpa = dpa;
-                fields.raw_size = raw_size;
-                fields.flags = flags;
-            }
-            OtherType => fields.type_guid = OTHER_GUID,
-            OtherWays => fields.nlabel = 3,
-            OtherPosition => fields.position = 2,
-            OtherCookie => fields.cookie = 0,
-        }
+        fields.uuid[15] = last;
         fields
     }
 }
@@ -176,53 +158,6 @@ const LEFT: [Row; 3] = [
     ),
 ];
 
-/// A label that differs from a namespace's in one field holds its space, as the other label does.
-const STRANGERS: [Stored; 5] = [
-    Label(0x13, 0, 0, 2 * MIB, 2),
-    OtherType,
-    OtherWays,
-    OtherPosition,
-    OtherCookie,
-];
-
-/// A namespace at the end of the part; one of whose labels goes past the end: both hold the last byte; and a label
-/// behind the part, which holds none of it.
-const ENDS: [Row; 3] = [
-    (
-        &[Label(0x13, 0, LAST, 1, 0)],
-        Some(&[Label(0x13, 1, LAST, 1, 0)]),
-        (Status::Ready, &[(LAST, 1, false, false)], &[(0, LAST)]),
-        [(Some(13), &[]), (Some(13), &[])],
-    ),
-    (
-        &[Label(0x13, 0, LAST, 2, 0)],
-        Some(&[Label(0x13, 1, LAST, 1, 0)]),
-        (Status::Ready, &[], &[(0, LAST)]),
-        [(Some(13), &[(LAST, 2)]), (Some(13), &[(LAST, 1)])],
-    ),
-    (
-        &[Label(0x13, 0, HIGH, 2 * MIB, 0)],
-        Some(&[]),
-        ALL_FREE,
-        [(Some(13), &[(HIGH, 2 * MIB)]), NONE_HELD],
-    ),
-];
-
-/// A uuid that stands in one module twice holds its space, also where its labels are being changed.
-const DOUBLED: Row = (
-    &[Label(0x13, 0, 0, 2 * MIB, UPDATING)],
-    Some(&[
-        Label(0x13, 1, 4 * MIB, 2 * MIB, UPDATING),
-        Label(0x13, 1, 0, 2 * MIB, UPDATING),
-    ]),
-    (
-        Status::Ready,
-        &[],
-        &[(2 * MIB, 2 * MIB), (6 * MIB, PART - 6 * MIB)],
-    ),
-    [ONE_HELD, (Some(12), &[(0, 2 * MIB), (4 * MIB, 2 * MIB)])],
-);
-
 /// An area of 4,096 bytes with labels in its first slots, of 14 in all.
 fn area_with(alloc: Global, labels: &[Stored]) -> Result<Vec<u8>, AllocError> {
     let used = (1u32 << (labels.len() % 14)) - 1;
@@ -298,55 +233,6 @@ fn namespaces(rt: HostRuntime) -> Result<(), Fail> {
 #[test]
 fn left_labels(rt: HostRuntime) -> Result<(), Fail> {
     shows_rows(&rt, rt.alloc(), &LEFT)
-}
-
-#[test]
-fn ends(rt: HostRuntime) -> Result<(), Fail> {
-    shows_rows(&rt, rt.alloc(), &ENDS)
-}
-
-#[test]
-fn doubled(rt: HostRuntime) -> Result<(), Fail> {
-    shows(&rt, rt.alloc(), &DOUBLED)
-}
-
-#[test]
-fn strangers(rt: HostRuntime) -> Result<(), Fail> {
-    for stranger in STRANGERS {
-        let second = Label(0x13, 1, 0, 2 * MIB, 0);
-        let sets = sets(rt.alloc(), &[stranger], Some(&[second]))?;
-        shows_all(&rt, rt.alloc(), &sets, &HELD, &[ONE_HELD, ONE_HELD])?;
-    }
-    Ok(())
-}
-
-/// A namespace of which a label is marked: its flags, and whether it is pending and read-only.
-#[test]
-fn marks(rt: HostRuntime) -> Result<(), Fail> {
-    for (flags, pending, read_only) in [
-        (0, false, false),
-        (UPDATING, true, false),
-        (9, false, true),
-    ] {
-        let first = Label(0x13, 0, 0, 2 * MIB, 0);
-        let second = Label(0x13, 1, 0, 2 * MIB, flags);
-        let sets = sets(rt.alloc(), &[first], Some(&[second]))?;
-        shows_mark(&rt, rt.alloc(), &sets, pending, read_only)?;
-    }
-    Ok(())
-}
-
-fn shows_mark(
-    rt: &impl Abort,
-    alloc: Global,
-    sets: &Sets,
-    pending: bool,
-    read_only: bool,
-) -> Result<(), Fail> {
-    let view = sets.region_view(alloc, 1)?.ok_or("there is no region 1")?;
-    let wanted = [(0, 2 * MIB, pending, read_only)];
-    assert!(rt; are_spaces(view.namespaces.as_slice(), &wanted));
-    shows_module(rt, alloc, sets, 0x101, &(Some(13), &[]))
 }
 
 fn shows_rows(rt: &impl Abort, alloc: Global, rows: &[Row]) -> Result<(), Fail> {
@@ -429,37 +315,16 @@ fn is_held(label: &Held, want: &(u64, u64)) -> bool {
     label.dpa == want.0 && label.size == want.1
 }
 
-/// The region itself.
-#[test]
-fn region(rt: HostRuntime) -> Result<(), Fail> {
-    let alloc = rt.alloc();
-    let sets = sets(alloc, &[], Some(&[]))?;
-    let view = sets.region_view(alloc, 1)?.ok_or("there is no region 1")?;
-    assert!(rt; view.spa == 0x1_0000_0000 && view.length == 2 * PART);
-    assert!(rt; view.ways == 2 && view.cookie == 0x0002_e242_0000_346b);
-    Ok(())
-}
-
 /// Which regions and modules there are.
 #[test]
 fn known(rt: HostRuntime) -> Result<(), Fail> {
     let alloc = rt.alloc();
     let sets = sets(alloc, &[], Some(&[]))?;
-    assert!(rt; sets.region_count() == 1 && sets.region_index(0) == Some(1));
-    assert!(rt; sets.region_index(1).is_none());
+    let view = sets.region_view(alloc, 1)?.ok_or("there is no region 1")?;
+    assert!(rt; view.spa == 0x1_0000_0000 && view.length == 2 * PART);
+    assert!(rt; view.ways == 2 && view.cookie == 0x0002_e242_0000_346b);
     assert!(rt; sets.region_view(alloc, 2)?.is_none());
     assert!(rt; sets.module_view(alloc, 2)?.is_none());
-    Ok(())
-}
-
-#[test]
-fn held_label(rt: HostRuntime) -> Result<(), Fail> {
-    let alloc = rt.alloc();
-    let sets = sets(alloc, &[], Some(&[Label(0x13, 1, 0, 2 * MIB, 0)]))?;
-    let view = sets.module_view(alloc, 0x101)?.ok_or("there is no module")?;
-    let held = view.held.get(0).ok_or("nothing is held")?;
-    assert!(rt; held.uuid == UUID_13 && held.region == Some(1));
-    assert!(rt; !held.updating && !held.local && !held.read_only);
     Ok(())
 }
 
@@ -568,10 +433,91 @@ fn init_second(
     Ok(sets.init(alloc, rig, platform, 0x101))
 }
 
+/// What a stop leaves of a write: the old bytes, the new ones, or these without their first eight.
+#[derive(Clone, Copy)]
+enum Left {
+    Old,
+    New,
+    Unsigned,
+}
+
+/// The bytes that are left of a write.
+fn left_by(alloc: Global, left: Left, old: &[u8], new: &[u8]) -> Result<Vec<u8>, AllocError> {
+    let mut bytes = Vec::new(alloc);
+    for (i, (old, new)) in old.iter().zip(new).enumerate() {
+        bytes.push(match left {
+            Left::Old => *old,
+            Left::Unsigned if i < 8 => 0,
+            Left::New | Left::Unsigned => *new,
+        })?;
+    }
+    Ok(bytes)
+}
+
+/// The rig where a write was stopped, if the call is a write.
+fn stopped(
+    alloc: Global,
+    rig: &MemoryRig,
+    call: u64,
+    left: Left,
+) -> Result<Option<MemoryRig>, AllocError> {
+    match rig.kept(call) {
+        Some(Kept::Write { old, new, .. }) => {
+            let torn = left_by(alloc, left, old, new)?;
+            rig.crash(alloc, call, &torn)
+        }
+        Some(Kept::Say { .. }) | None => Ok(None),
+    }
+}
+
+/// Each write of an area that is initialised is stopped: its module is as it was, or as it is made. Of the first
+/// module a label is held until then, and is dead afterwards.
+#[test]
+fn stops_of_init(rt: HostRuntime) -> Result<(), Fail> {
+    let alloc = rt.alloc();
+    let platform = platform(alloc)?;
+    let mut rig = rig_of(alloc, &[Label(0x13, 0, 0, 2 * MIB, UPDATING)], None)?;
+    rig.add(0x101, vec![in alloc; 0; 4096]?)?;
+    let mut sets = match read_state(alloc, &platform, &mut rig) {
+        Ok(sets) => sets,
+        Err(_) => return Err(Fail::from("no state")),
+    };
+    rig.keep_calls(2, 1024)?;
+    assert_eq!(rt; init_second(alloc, &mut rig, &platform, &mut sets)?, Ok(14));
+    for call in 0..rig.calls() {
+        for left in [Left::Old, Left::New, Left::Unsigned] {
+            if let Some(mut rig) = stopped(alloc, &rig, call, left)? {
+                is_before_or_after(&rt, alloc, &platform, &mut rig)?;
+            }
+        }
+    }
+    Ok(())
+}
+
+fn is_before_or_after(
+    rt: &impl Abort,
+    alloc: Global,
+    platform: &Platform,
+    rig: &mut MemoryRig,
+) -> Result<(), Fail>
+    requires { IsSound platform.now }
+{
+    let sets = match read_state(alloc, platform, rig) {
+        Ok(sets) => sets,
+        Err(_) => return Err(Fail::from("no state")),
+    };
+    let view = sets.module_view(alloc, 0x101)?.ok_or("there is no module")?;
+    if view.state == AreaState::Uninit {
+        shows_module(rt, alloc, &sets, 0x1, &ONE_HELD)
+    } else {
+        shows_all(rt, alloc, &sets, &ALL_FREE, &[NONE_HELD, NONE_HELD])
+    }
+}
+
 /// A call that fails names its module.
 #[test]
 fn failing_calls(rt: HostRuntime) -> Result<(), Fail> {
-    for (call, dimm) in [(0, 0x1), (1, 0x1), (2, 0x101), (3, 0x101)] {
+    for (call, dimm) in [(1, 0x1), (2, 0x101)] {
         let fault = fault_at(rt.alloc(), call)?;
         assert_eq!(rt; fault, Some(SetFault::Failed { dimm }), "at {call}");
     }
