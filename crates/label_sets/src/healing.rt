@@ -24,10 +24,10 @@ impl Sets {
     ghost use Rattle.label_sets.specs.Staging.{OfRegion};
     ghost use Rattle.label_sets.specs.Healing.{CanHealIn, IsHealedIn};
 
-    /// Heals a namespace of a Ready region that is not read-only: each of its labels that is marked as being changed, or
-    /// that differs from the label of position 0 in name, sector size, abstraction or length, is replaced by one flip,
-    /// from position 1 on and that of position 0 last. It needs the platform whose state this is, and takes no memory. A
-    /// stop at any moment leaves areas that stand for the same table. `Err` where the rig failed.
+    /// Heals a namespace of a Ready region that is not read-only: each of its labels that is marked as being changed,
+    /// or that differs from the label of position 0 in name, sector size, abstraction or length, is replaced by one
+    /// flip, from position 1 on and that of position 0 last. It needs the platform whose state this is, and takes no
+    /// memory. A stop at any moment leaves areas that stand for the same table. `Err` where the rig failed.
     pub fn clear_all<R: Rig>(
         &mut self,
         rig: &mut R,

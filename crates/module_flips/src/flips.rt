@@ -173,7 +173,8 @@ pub fn put_at<R: Rig>(
     ensures slot_within { (d : LoadedModule) → first_slot_in (slice_index_or modules.old seat d)
         < (module_in (slice_index_or modules.old seat d)).slots }
     ensures slot_free { (d : LoadedModule)
-        → (module_in (slice_index_or modules.old seat d)).at (first_slot_in (slice_index_or modules.old seat d)) ≡ None }
+        → (module_in (slice_index_or modules.old seat d)).at (first_slot_in (slice_index_or modules.old seat d))
+        ≡ None }
     ensures together { OnOk result (StaysTogether modules.old regions.old modules.new regions.new) }
     ensures free_slots { (d : LoadedModule) → OnOk result (free_slots (slice_index_or modules.new seat d) + 1
         ≡ free_slots (slice_index_or modules.old seat d) + length (replaced replaces)) }

@@ -28,9 +28,9 @@ use rig_trait::Rig;
 
 /// Heals a namespace of a region that is not read-only. Each label of the positions from 1 on that is being changed, or
 /// differs from that of position 0 in name, sector size, abstraction or length, is replaced by one that has these of it
-/// and is no longer being changed. Then the label of position 0 is, where it is being changed. Each of the modules has a
-/// free slot. It takes no memory. A stop at any moment leaves areas that stand for the same table. `Err` where the rig
-/// failed, with the module's handle: what is kept is then what the flips before the failure made.
+/// and is no longer being changed. Then the label of position 0 is, where it is being changed. Each of the modules has
+/// a free slot. It takes no memory. A stop at any moment leaves areas that stand for the same table. `Err` where the
+/// rig failed, with the module's handle: what is kept is then what the flips before the failure made.
 pub fn heal_labels<R: Rig>(
     rig: &mut R,
     modules: &mut [LoadedModule],
