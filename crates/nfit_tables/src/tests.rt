@@ -1,7 +1,7 @@
 use super::*;
 use std::alloc::Global;
 use std::test::Fail;
-use test_areas::{nfit, put_sum, two_modules};
+use test_areas::{PERSISTENT_MEMORY, nfit, put_sum, two_modules};
 
 /// The first fault of bytes. Where they are a table, it is written as the same bytes.
 fn fault_of(alloc: Global, bytes: &[u8]) -> Result<Option<NfitFault>, &'static str> {
