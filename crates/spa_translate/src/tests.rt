@@ -31,20 +31,27 @@ fn platform(alloc: Global, ways: u8) -> Result<Platform, &'static str>
 }
 
 /// What the check of region 1 says.
-fn checked(alloc: Global, ways: u8) -> Result<Result<Weave, CheckFault>, &'static str> {
-    let platform = platform(alloc, ways)?;
+fn checked(alloc: Global, platform: &Platform) -> Result<Result<Weave, CheckFault>, &'static str>
+    requires { IsSound platform.now }
+{
     usable_regions();
     match platform.region(1) {
         Some(region) => match region.rule {
             Some(_) => Err("the region cannot be used"),
-            None => Ok(Weave::check(alloc, &platform, region)),
+            None => Ok(Weave::check(alloc, platform, region)),
         },
         None => Err("there is no region 1"),
     }
 }
 
+/// The same, of that platform.
+fn weave_of(alloc: Global, ways: u8) -> Result<Result<Weave, CheckFault>, &'static str> {
+    let platform = platform(alloc, ways)?;
+    checked(alloc, &platform)
+}
+
 fn woven(alloc: Global) -> Result<Weave, &'static str> {
-    match checked(alloc, 2)? {
+    match weave_of(alloc, 2)? {
         Ok(weave) => Ok(weave),
         Err(_) => Err("the region is refused"),
     }
@@ -72,7 +79,7 @@ fn two_modules(rt: HostRuntime) -> Result<(), Fail> {
 
 #[test]
 fn ways_differ(rt: HostRuntime) -> Result<(), Fail> {
-    let fault = checked(rt.alloc(), 3)?.err();
+    let fault = weave_of(rt.alloc(), 3)?.err();
     assert_eq!(rt; fault, Some(CheckFault::Fault(TranslateFault::WaysDiffer)));
     Ok(())
 }
