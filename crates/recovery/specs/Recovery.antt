@@ -14,8 +14,8 @@ use Rattle.region_sets.specs.declared.modules.LoadedModule.{LoadedModule}
 use Rattle.module_flips.specs.Stops.{FailedAmong}
 use Rattle.module_flips.specs.Together.{free_slots}
 use Rattle.label_sets.specs.Sets.{StoredSets, labels_in, state_in}
-use Rattle.recovery.specs.declared.recover.RecoverFault.{RecoverFault}
-use Rattle.recovery.specs.declared.recover.RecoverFault.TheVariants.{Failed, Unhealed}
+use Rattle.recovery.specs.declared.region.RecoverFault.{RecoverFault}
+use Rattle.recovery.specs.declared.region.RecoverFault.TheVariants.{Failed, Unhealed}
 
 -- how many namespaces of a region are pending
 abbrev pub pending_count : Labels → Region → ℕ

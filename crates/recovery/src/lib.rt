@@ -2,7 +2,7 @@
 #![tactic(auto)]
 
 mod heals;
-mod recover;
+mod region;
 mod sweeps;
 
-pub use recover::{RecoverFault, recover};
+pub use region::{RecoverFault, recover};

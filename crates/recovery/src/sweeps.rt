@@ -1,10 +1,10 @@
 //! The modules of a region are swept, one after the other.
 
-ghost use Rattle.std.specs.Prelude.{◌≡◌, ◌<◌, OnOk, length};
+ghost use Rattle.std.specs.Prelude.{◌≡◌, ◌<◌, OnOk, length, true};
 ghost use Rattle.std.specs.List.{All};
 ghost use Rattle.rig_trait.specs.Frames.{IsTold};
 ghost use Rattle.label_table.specs.Belonging.{member_at};
-ghost use Rattle.label_table.specs.Statuses.{RegionReady, status};
+ghost use Rattle.label_table.specs.Wholes.{all_ready};
 ghost use Rattle.region_sets.specs.Regions.{handles};
 ghost use Rattle.module_flips.specs.Flips.{IsSizedIn};
 ghost use Rattle.module_flips.specs.Stops.{HasAreaCause};
@@ -18,9 +18,10 @@ use label_sets::{AreaFailed, Sets};
 use region_map::Region;
 use rig_trait::Rig;
 
-/// Frees the junk and the dead labels of each module of a Ready region, by position. The state stays.
+/// Frees the junk and the dead labels of each module of a region, by position, all of whose areas are Ready. The state
+/// stays.
 pub(crate) fn sweep_members<R: Rig>(rig: &mut R, sets: &mut Sets, found: &Region) -> Result<(), AreaFailed>
-    requires ready { status (labels_in sets.old) found.now ≡ RegionReady }
+    requires ready { all_ready found.now (labels_in sets.old) ≡ true }
     requires sized { IsTold R.Shown rig.old → All (IsSizedIn (R.areas rig.old)) sets.old.modules }
     ensures free { OnOk result (All (HasSpareFree sets.new found.now) sets.new.modules) }
     ensures state { state_in sets.new ≡ state_in sets.old }
@@ -46,7 +47,7 @@ fn sweep_member<R: Rig>(
     position: usize,
 ) -> Result<(), AreaFailed>
     requires within { position < length found.now.members }
-    requires ready { status (labels_in sets.old) found.now ≡ RegionReady }
+    requires ready { all_ready found.now (labels_in sets.old) ≡ true }
     requires sized { IsTold R.Shown rig.old → All (IsSizedIn (R.areas rig.old)) sets.old.modules }
     ensures free { OnOk result (IsFreeAsSpare sets.new (member_at found.now position).handle) }
     ensures others { ChangesOnly (member_at found.now position).handle sets.old.modules sets.new.modules }
