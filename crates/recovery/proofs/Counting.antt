@@ -34,14 +34,14 @@ module _ {X : Type 0} (p q : X → Bool) (implies : (x : X) → q x ≡ true →
       let b : count_by p (y ∷ xs) ≡ weight (p y) + count_by p xs = sum_by-cons (λ z. cond (p z) 1 0) y xs in
       elim (Contains-cases y xs x c) [
         | inl is ↦
-          let rest : count_by q xs ≤ count_by p xs = count-le xs in
-          let one : weight (p y) ≡ 1 = ap weight (ap p (sym is) ∙ passes) in
-          let none : weight (q y) ≡ 0 = ap weight (ap q (sym is) ∙ fails) in
-          omega (arith, rest, one, none, a, b)
+            let rest : count_by q xs ≤ count_by p xs = count-le xs in
+            let one : weight (p y) ≡ 1 = ap weight (ap p (sym is) ∙ passes) in
+            let none : weight (q y) ≡ 0 = ap weight (ap q (sym is) ∙ fails) in
+            omega (arith, rest, one, none, a, b)
         | inr there ↦
-          let rest : count_by q xs < count_by p xs = count-less xs x there passes fails in
-          let here : weight (q y) ≤ weight (p y) = weight-le (p y) (q y) (implies y) in
-          omega (arith, rest, here, a, b)
+            let rest : count_by q xs < count_by p xs = count-less xs x there passes fails in
+            let here : weight (q y) ≤ weight (p y) = weight-le (p y) (q y) (implies y) in
+            omega (arith, rest, here, a, b)
       ]
 
 -- none is counted where none passes

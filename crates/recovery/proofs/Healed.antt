@@ -1,7 +1,7 @@
 -- The pending namespaces of a region are healed, one after the other.
-use Rattle.std.proofs.Common.{◌≡◌, ◌≢◌, ℕ, ◌<◌, ◌≤◌, true, false, List, length, get_or, map, Some, None, refl, sym, ap, subst, ◌∙◌, inl, inr, arith}
+use Rattle.std.proofs.Common.{◌≡◌, ℕ, ◌<◌, ◌≤◌, true, false, List, length, get_or, map, Some, None, sym, ap, subst, ◌∙◌, arith}
 use Rattle.std.specs.Prelude.{◌==◌, count_by}
-use Rattle.std.specs.List.{All, Contains}
+use Rattle.std.specs.List.{All}
 use Rattle.region_map.specs.declared.platform.Member.{Member}
 use Rattle.region_map.specs.declared.platform.Platform.{Platform}
 use Rattle.region_map.specs.declared.platform.Region.{Region}
@@ -11,15 +11,14 @@ use Rattle.label_table.specs.Namespaces.{namespaces}
 use Rattle.label_table.specs.Spaces.{Space, is_pending}
 use Rattle.label_table.specs.Statuses.{RegionReady, status}
 use Rattle.label_table.specs.Tables.{State, is_member}
-use Rattle.label_table.proofs.ListTests.{eq_true, list_any-found, none_some}
-use Rattle.region_sets.specs.declared.modules.LoadedModule.{LoadedModule}
+use Rattle.label_table.proofs.ListTests.{eq_true, list_any-found}
 use Rattle.region_sets.specs.Modules.{dimm_of}
 use Rattle.module_flips.specs.Together.{free_slots}
 use Rattle.namespace_healing.proofs.Passing.{at-place, each-length}
 use Rattle.label_sets.specs.Healing.{CanHealIn, IsHealedIn}
 use Rattle.label_sets.specs.Sets.{StoredSets, labels_in, platform_in, state_in}
 use Rattle.label_sets.proofs.SweptSets.{get_or-any}
-use Rattle.recovery.specs.Recovery.{HasSpareFree, IsRecovered, first_full, pending_count, unhealed_at}
+use Rattle.recovery.specs.Recovery.{HasSpareFree, IsRecovered, pending_count, unhealed_at}
 use Rattle.recovery.specs.Steps.{AreHealed, CanHealPending}
 use Rattle.recovery.proofs.Counting.{count-le}
 use Rattle.recovery.proofs.Full.{spare-each, unhealed-some}

@@ -1,5 +1,5 @@
 -- Which namespaces of a region are pending, how many, and how they are told in the state.
-use Rattle.std.proofs.Common.{◌≡◌, ◌≢◌, ℕ, ◌+◌, ◌<◌, ◌≤◌, Bool, true, false, cond, ◌&&◌, List, [], ◌∷◌, find, map, Option, Some, None, refl, sym, ap, subst, ◌∙◌, inl, inr, arith}
+use Rattle.std.proofs.Common.{◌≡◌, ◌≢◌, ℕ, ◌<◌, Bool, true, false, cond, ◌&&◌, List, [], ◌∷◌, find, map, Option, Some, None, refl, sym, ap, subst, ◌∙◌, arith}
 use Rattle.std.specs.Prelude.{◌==◌, count_by, not}
 use Rattle.std.specs.List.{Contains}
 use Rattle.std.specs.Option.{option_and_then, option_map, option_map_or}
@@ -15,9 +15,9 @@ use Rattle.label_table.specs.Namespaces.{namespaces}
 use Rattle.label_table.specs.Spaces.{Space, is_pending, space}
 use Rattle.label_table.specs.Statuses.{status}
 use Rattle.label_table.specs.Tables.{changed_at, table}
-use Rattle.label_table.specs.Wholes.{any_read_only, any_updating, is_whole, labels_with}
+use Rattle.label_table.specs.Wholes.{any_read_only, is_whole, labels_with}
 use Rattle.label_table.proofs.Listed.{namespaces-to}
-use Rattle.label_table.proofs.ListTests.{both, eq_other, eq_same, never, none_some, not_true, some_is, uuid_same}
+use Rattle.label_table.proofs.ListTests.{eq_other, eq_same, eq_true, find-some, never, none_some, not_true, some_is, uuid_same}
 use Rattle.label_table.proofs.Order.{space-uuid}
 use Rattle.label_table.proofs.SoundPlatforms.{sound-disjoint}
 use Rattle.label_table.proofs.StatusLaws.{namespaces-kept, status-kept}
@@ -32,7 +32,7 @@ use Rattle.label_sets.specs.Lookups.{LacksSpare, LacksSpareIn, in_region, uuid_o
 use Rattle.label_sets.specs.Sets.{StoredSets, labels_in, platform_in, state_in}
 use Rattle.label_sets.proofs.Stageable.{region-listed}
 use Rattle.recovery.specs.Recovery.{pending_count}
-use Rattle.recovery.proofs.Counting.{count-le, count-less, count-none}
+use Rattle.recovery.proofs.Counting.{count-less, count-none}
 
 module _ (L : Labels) (r : Region) where
   first-is : (ss : List Space) (sp : Namespace) → find shows_pending (map (listed_in L r) ss) ≡ Some sp → is_pending L r sp.uuid ≡ true
@@ -159,3 +159,18 @@ module _ (sets : StoredSets) (index : ℕ) (r : Region) (there : region_at (plat
 
   pub spare-in : (found : Option ModuleSpare) → LacksSpare sets index 1 found → IsFirstWithoutSpare (platform_in sets) (labels_in sets) r 1 found
   spare-in found lacks = subst (λ (o : Option Region). LacksSpareIn (platform_in sets) (labels_in sets) 1 o found) there lacks
+
+-- what is none of the values is none
+pub none-of : {A : Type 0} → (o : Option A) → ((x : A) → o ≡ Some x → ⊥) → o ≡ None
+none-of None never = refl
+none-of (Some x) never = absurd (never x refl)
+
+-- a region that is found has its index
+module _ (P : Platform) (sets : StoredSets) (same : P.regions ≡ sets.regions) (index : ℕ) (r : Region) (there : region_at P index ≡ Some r) where
+  pub found-in : region_at (platform_in sets) index ≡ Some r
+  found-in = ap (λ (rs : List Region). region_at (with_regions rs) index) (sym same) ∙ there
+
+  pub found-own : region_at (platform_in sets) r.index ≡ Some r
+  found-own =
+      let index_is : r.index ≡ index = eq_true r.index index (find-some (λ (q : Region). q.index == index) P.regions r there).1 in
+      ap (region_at (platform_in sets)) index_is ∙ found-in

@@ -1,5 +1,5 @@
 -- The modules of a region are swept, one after the other.
-use Rattle.std.proofs.Common.{◌≡◌, ◌≢◌, ℕ, ◌+◌, ◌<◌, true, false, List, length, get_or, map, Result, Ok, Err, refl, sym, ap, subst, ◌∙◌, inl, inr, arith}
+use Rattle.std.proofs.Common.{◌≡◌, ◌≢◌, ℕ, ◌+◌, ◌<◌, true, false, List, length, get_or, map, Result, Ok, Err, sym, ap, subst, ◌∙◌, inl, inr, arith}
 use Rattle.std.specs.Prelude.{◌==◌, IfErr}
 use Rattle.std.specs.List.{All, list_all}
 use Rattle.std.specs.Result.{is_err}
@@ -16,7 +16,6 @@ use Rattle.label_table.specs.Belonging.{member_at, no_member}
 use Rattle.label_table.specs.Tables.{State, state}
 use Rattle.label_table.specs.Wholes.{all_ready}
 use Rattle.label_table.proofs.ListTests.{Contains-get_or, eq_same, eq_true, list_all-at, list_any-found}
-use Rattle.region_sets.specs.declared.modules.LoadedModule.{LoadedModule}
 use Rattle.region_sets.specs.Modules.{dimm_of, size_in}
 use Rattle.region_sets.specs.Regions.{handles}
 use Rattle.region_sets.proofs.Seated.{handle-at, length-handles}
@@ -80,9 +79,9 @@ pub free-still : (s now : StoredSets) (dimm other : ℕ) → state_in now ≡ st
 free-still s now dimm other same changes dimms here was place d lt is = elim (cases_eq other dimm) [
   | inl e ↦ here place d lt (is ∙ e) ∙ ap (state_in now).table.spare (sym e)
   | inr differ ↦
-    let same_dimm : (get_or now.modules place d).dimm ≡ (get_or s.modules place d).dimm = at-place dimm_of s.modules now.modules dimms place d lt in
-    let kept : get_or now.modules place d ≡ get_or s.modules place d = changes.others place d (λ e. differ (sym is ∙ same_dimm ∙ e)) in
-    ap free_slots kept ∙ was place d (subst (λ n. place < n) (each-length dimm_of s.modules now.modules dimms) lt) (sym same_dimm ∙ is) ∙ ap (λ (t : State). t.table.spare other) (sym same)
+      let same_dimm : (get_or now.modules place d).dimm ≡ (get_or s.modules place d).dimm = at-place dimm_of s.modules now.modules dimms place d lt in
+      let kept : get_or now.modules place d ≡ get_or s.modules place d = changes.others place d (λ e. differ (sym is ∙ same_dimm ∙ e)) in
+      ap free_slots kept ∙ was place d (subst (λ n. place < n) (each-length dimm_of s.modules now.modules dimms) lt) (sym same_dimm ∙ is) ∙ ap (λ (t : State). t.table.spare other) (sym same)
 ]
 
 -- each module of the region is swept

@@ -20,7 +20,11 @@ use rig_trait::Rig;
 
 /// Frees the junk and the dead labels of each module of a region, by position, all of whose areas are Ready. The state
 /// stays.
-pub(crate) fn sweep_members<R: Rig>(rig: &mut R, sets: &mut Sets, found: &Region) -> Result<(), AreaFailed>
+pub(crate) fn sweep_members<R: Rig>(
+    rig: &mut R,
+    sets: &mut Sets,
+    found: &Region,
+) -> Result<(), AreaFailed>
     requires ready { all_ready found.now (labels_in sets.old) ≡ true }
     requires sized { IsTold R.Shown rig.old → All (IsSizedIn (R.areas rig.old)) sets.old.modules }
     ensures free { OnOk result (All (HasSpareFree sets.new found.now) sets.new.modules) }

@@ -1,10 +1,10 @@
-use Rattle.std.proofs.Common.{◌≡◌, ◌≤◌, ◌<◌, ℕ, Some, None, refl, sym, ap, ◌∙◌, arith}
+use Rattle.std.proofs.Common.{◌≤◌, ◌<◌, refl, sym, ◌∙◌, arith}
 use Rattle.region_sets.specs.Regions.{handles}
 use Rattle.label_sets.specs.Sets.{labels_in}
 use Rattle.recovery.specs.Recovery.{pending_count}
 use Rattle.recovery.proofs.Healed.{can-still, none-left}
 use Rattle.recovery.proofs.Joined.{no-step, sized-on, step-on}
-use Rattle.recovery.proofs.Pending.{first-in, found-still, marks-elsewhere, none-in}
+use Rattle.recovery.proofs.Pending.{first-in, found-still, marks-elsewhere, none-in, none-of}
 use Rattle.recovery.proofs.heals.heal_pending.Goals as goal
 
 pub loop-uuid-init : goal.loop-uuid-init
@@ -57,7 +57,7 @@ returns-clause-healed g c =
     let before = c.loop-uuid.invariant in
     let still = found-still c.args.platform.now c.requires.sound c.args.sets.now c.loop-uuid.sets c.requires.platform c.args.found.now c.args.found.now.index c.requires.found before.step.regions before.step.same_table in
     record {
-      none_pending = none-left c.loop-uuid.sets c.args.found.now still (none-in c.loop-uuid.sets c.args.found.now.index c.args.found.now still (sym c.first_pending.ensures ∙ c.in_default.not-Some));
+      none_pending = none-left c.loop-uuid.sets c.args.found.now still (none-in c.loop-uuid.sets c.args.found.now.index c.args.found.now still (sym c.first_pending.ensures ∙ none-of c.first_pending.result c.in_default.not-Some));
       others = before.others;
       same_free = before.same_free;
     }

@@ -1,10 +1,5 @@
-use Rattle.std.proofs.Common.{◌≡◌, ℕ, List, Option, Some, None, refl, sym, ap, subst, ◌∙◌}
-use Rattle.region_map.specs.declared.platform.Region.{Region}
-use Rattle.region_lookups.specs.declared.positions.ModuleSpare.{ModuleSpare}
-use Rattle.region_lookups.specs.Positions.{IsFirstWithoutSpare}
-use Rattle.label_sets.specs.Lookups.{LacksSpareIn}
-use Rattle.label_sets.specs.Sets.{labels_in, platform_in}
-use Rattle.recovery.specs.Recovery.{unhealed_at}
+use Rattle.std.proofs.Common.{Some, None, sym, ◌∙◌}
+use Rattle.label_sets.specs.Sets.{labels_in}
 use Rattle.recovery.proofs.Full.{full-by, unhealed-none, unhealed-some}
 use Rattle.recovery.proofs.Pending.{first-in, none-count, none-in, pending-some, spare-in}
 use Rattle.recovery.proofs.region.full_module.Goals as goal

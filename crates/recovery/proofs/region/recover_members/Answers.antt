@@ -1,4 +1,3 @@
-use Rattle.std.proofs.Common.{◌≡◌, ◌∙◌, ap}
 use Rattle.region_sets.specs.Regions.{handles}
 use Rattle.label_sets.specs.Sets.{labels_in}
 use Rattle.label_sets.proofs.Stageable.{ready-all}

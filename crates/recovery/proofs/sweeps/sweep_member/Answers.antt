@@ -4,7 +4,7 @@ use Rattle.label_area.specs.Flips.{is_among}
 use Rattle.region_map.specs.declared.platform.Member.{Member}
 use Rattle.region_map.specs.declared.platform.Region.{Region}
 use Rattle.region_sets.specs.Regions.{handles}
-use Rattle.label_table.specs.Belonging.{member_at, no_member}
+use Rattle.label_table.specs.Belonging.{no_member}
 use Rattle.label_sets.specs.Sets.{labels_in}
 use Rattle.recovery.proofs.Swept.{member-known, member-ready, swept-cause, swept-step}
 use Rattle.recovery.proofs.sweeps.sweep_member.Goals as goal

@@ -1,10 +1,5 @@
-use Rattle.std.proofs.Common.{◌≡◌, ◌<◌, ◌≤◌, ℕ, length, refl, sym, ap, subst, ◌∙◌, inl, inr, arith}
-use Rattle.std.proofs.lemmas.Bool.{cases_eq}
-use Rattle.label_table.specs.Belonging.{member_at}
-use Rattle.region_map.specs.declared.platform.Region.{Region}
+use Rattle.std.proofs.Common.{◌≡◌, length, refl, ◌∙◌, arith}
 use Rattle.region_sets.specs.Regions.{handles}
-use Rattle.label_sets.specs.Sets.{StoredSets, state_in}
-use Rattle.label_sets.specs.Sweeps.{ChangesOnly, IsFreeAsSpare}
 use Rattle.recovery.proofs.Joined.{no-step, sized-on, step-on}
 use Rattle.recovery.proofs.Swept.{all-free, free-more, ready-still}
 use Rattle.recovery.proofs.sweeps.sweep_members.Goals as goal
