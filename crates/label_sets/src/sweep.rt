@@ -34,8 +34,8 @@ impl Sets {
     ghost use Rattle.label_sets.specs.Sweeps.{ChangesOnly, IsFreeAsSpare, IsSweptAt};
 
     /// Frees the junk and the dead labels of a module whose area is Ready, by one flip, or by none where there are
-    /// none. It takes no memory. A stop at any moment leaves areas that stand for the same state. `Err` where the rig failed: what
-    /// is kept is as before then.
+    /// none. It takes no memory. A stop at any moment leaves areas that stand for the same state. `Err` where the rig
+    /// failed: what is kept is as before then.
     pub fn sweep<R: Rig>(&mut self, rig: &mut R, dimm: u32) -> Result<(), AreaFailed>
         requires ready { IsTrue (is_ready (sets.labels_in self.old dimm).kind) }
         requires sized { IsTold R.Shown rig.old → All (IsSizedIn (R.areas rig.old)) self.old.modules }

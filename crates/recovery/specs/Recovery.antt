@@ -1,6 +1,6 @@
 -- What the recovery of a region makes of the state, and where it cannot be made.
-use Rattle.std.specs.Prelude.{◌≡◌, ◌≢◌, ℕ, ◌==◌, nat_lt, false, true, List, [], ◌∷◌, Option, None, Some, Result, Ok, Err}
-use Rattle.std.specs.Prelude.{count_by, if◌then◌else◌}
+use Rattle.std.specs.Prelude.{◌≡◌, ◌≢◌, ℕ, ◌==◌, nat_lt, false, true, List, [], ◌∷◌, Option, None, Some, Result}
+use Rattle.std.specs.Prelude.{Err, Ok, count_by, if◌then◌else◌}
 use Rattle.std.specs.List.{All}
 use Rattle.rig_trait.specs.declared.shown.Shown.{Ghosts}
 use Rattle.rig_trait.specs.Frames.{FailsAt}

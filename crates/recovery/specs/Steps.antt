@@ -19,8 +19,8 @@ use Rattle.recovery.specs.Recovery.{pending_count}
 abbrev pub HasTableOf : StoredSets → Labels → Type 0
 HasTableOf sets labels = table (platform_in sets) labels ≡ (state_in sets).table
 
--- What each step keeps, whether it ends well or not: the table, and which regions and modules there are. What a stop at
--- any moment leaves stands for the table, and no module but those with these handles is written.
+-- What each step keeps, whether it ends well or not: the table, and which regions and modules there are. What a stop
+-- at any moment leaves stands for the table, and no module but those with these handles is written.
 pub record IsStep {R : Type 0} (handles : List ℕ) (m : Ghosts R) (sets : StoredSets) (old : R) (now : StoredSets)
     (new : R) : Type 0 where
   pub same_table : (state_in now).table ≡ (state_in sets).table

@@ -33,10 +33,10 @@ pub enum RecoverFault {
 }
 
 /// Recovers a Ready region before a change: the junk and the dead labels of each of its modules are freed, by position
-/// and at most one flip each, and then each of its pending namespaces is healed, by offset. It needs the platform whose
-/// state this is, and takes no memory. Where a namespace is pending and a module has no spare slot, it writes nothing
-/// and answers `Unhealed`; no other answer comes then. A stop at any moment leaves areas that stand for the same table.
-/// After `Failed` what is kept is what the flips before the failure made.
+/// and at most one flip each, and then each of its pending namespaces is healed, by offset. It needs the platform
+/// whose state this is, and takes no memory. Where a namespace is pending and a module has no spare slot, it writes
+/// nothing and answers `Unhealed`; no other answer comes then. A stop at any moment leaves areas that stand for the
+/// same table. After `Failed` what is kept is what the flips before the failure made.
 pub fn recover<R: Rig>(
     rig: &mut R,
     platform: &Platform,
@@ -84,11 +84,11 @@ fn full_module(sets: &Sets, region: u16) -> Option<u32>
     requires { IsSome (region_at (platform_in sets.now) region) }
     ensures { OfRegion sets.now region (λ found. result ≡ unhealed_at sets.now found) }
 {
-    match sets.first_pending(region) {
-        Some(_) => match sets.first_without_spare(region, 1) {
-            Some(short) => Some(short.dimm),
-            None => None,
-        },
+    if sets.first_pending(region).is_none() {
+        return None;
+    }
+    match sets.first_without_spare(region, 1) {
+        Some(short) => Some(short.dimm),
         None => None,
     }
 }
