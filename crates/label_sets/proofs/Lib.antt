@@ -8,6 +8,7 @@ pub mod Unwanted
 pub mod Swept
 pub mod Sweeping
 pub mod SweptSets
+pub mod SpareSlots
 pub mod InitialisedSets
 pub mod Refusals
 pub mod InitSets

@@ -21,7 +21,7 @@ use Rattle.module_flips.specs.Flips.{HasLabelsInUse, IsOwn, is_used_in}
 use Rattle.module_flips.specs.Together.{free_slots}
 use Rattle.label_sets.specs.Kept.{AllFree, HasFewMembers}
 use Rattle.label_sets.specs.Room.{HasRoom, HasSlotsWithin}
-use Rattle.label_sets.specs.Sets.{StoredSets, labels_in, platform_in}
+use Rattle.label_sets.specs.Sets.{StoredSets, labels_in, platform_in, state_in}
 
 -- a slot in use has no label, or a dead one
 abbrev pub is_unwanted : Platform → Labels → LoadedModule → ℕ → Bool
@@ -48,6 +48,12 @@ abbrev pub IsSweptAt : StoredSets → ℕ → Type 0
 IsSweptAt sets dimm = (place : ℕ) (d : LoadedModule) → place < length sets.modules
     → (slice_index_or sets.modules place d).dimm ≡ dimm
     → IsSwept (platform_in sets) (labels_in sets) (slice_index_or sets.modules place d)
+
+-- the module with a device handle has as many free slots as the table has spare ones of it
+abbrev pub IsFreeAsSpare : StoredSets → ℕ → Type 0
+IsFreeAsSpare sets dimm = (place : ℕ) (d : LoadedModule) → place < length sets.modules
+    → (slice_index_or sets.modules place d).dimm ≡ dimm
+    → free_slots (slice_index_or sets.modules place d) ≡ (state_in sets).table.spare dimm
 
 -- all other modules are as they were, in their order
 pub record ChangesOnly (dimm : ℕ) (before after : List LoadedModule) : Type 0 where

@@ -31,7 +31,7 @@ impl Sets {
     ghost use Rattle.region_sets.specs.Modules.{size_in};
     ghost use Rattle.label_sets.specs.Sets as sets;
     ghost use Rattle.label_sets.specs.Sets.{platform_in, state_in};
-    ghost use Rattle.label_sets.specs.Sweeps.{ChangesOnly, IsSweptAt};
+    ghost use Rattle.label_sets.specs.Sweeps.{ChangesOnly, IsFreeAsSpare, IsSweptAt};
 
     /// Frees the junk and the dead labels of a module whose area is Ready, by one flip, or by none where there are
     /// none. It takes no memory. A stop at any moment leaves areas that stand for the same state. `Err` where the rig
@@ -41,6 +41,7 @@ impl Sets {
         requires sized { IsTold R.Shown rig.old → All (IsSizedIn (R.areas rig.old)) self.old.modules }
         ensures state { state_in self.new ≡ state_in self.old }
         ensures swept { OnOk result (IsSweptAt self.new dimm) }
+        ensures spare { OnOk result (IsFreeAsSpare self.new dimm) }
         ensures others { ChangesOnly dimm self.old.modules self.new.modules }
         ensures kept { OnErr result (self.new ≡ self.old) }
         ensures regions { self.new.regions ≡ self.old.regions }

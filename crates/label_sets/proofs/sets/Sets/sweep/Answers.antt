@@ -15,6 +15,7 @@ use Rattle.module_flips.specs.Stored.{StandsIn}
 use Rattle.label_sets.specs.Room.{HasRoom, HasSlotsWithin}
 use Rattle.label_sets.specs.Sets.{StoredSets}
 use Rattle.label_sets.specs.Sweeps.{ChangesOnly, IsSweptTo}
+use Rattle.label_sets.proofs.SpareSlots.{spare-there}
 use Rattle.label_sets.proofs.SweptSets.{seat-named, swept-named, swept-written, within-more}
 use Rattle.label_sets.proofs.sets.Sets.sweep.Goals as goal
 
@@ -98,3 +99,15 @@ pub returns-clause-writes_only : goal.returns-clause-writes_only
 returns-clause-writes_only g c =
     subst (λ d. WritesTo d g.R.Shown c.args.rig.now c.sweep_at.new.rig)
     (seat-named c.deref_mut.result.now c.deref.result.now c.seat_of-seat.result c.args.dimm (c.deref.ensures.value ∙ sym c.deref_mut.ensures.value) c.seat_of-seat.ensures.within c.seat_of-seat.ensures.dimm) c.sweep_at.ensures.writes_only
+
+pub returns-clause-spare : goal.returns-clause-spare
+returns-clause-spare g c = λ place d lt is.
+    let ms = (with_items c.self.inside.modules c.sweep_at.new.modules).items in
+    let rs = (with_items c.self.inside.regions c.sweep_at.new.regions).items in
+    let to : IsSweptTo c.self.inside.modules.items c.self.inside.regions.items ms rs c.seat_of-seat.result =
+    swept-written c.self.inside.modules c.self.inside.regions c.deref_mut.result.now c.deref_mut-2.result.now c.sweep_at.new.modules c.sweep_at.new.regions c.seat_of-seat.result c.deref_mut.ensures.value c.deref_mut-2.ensures.value c.in_default.ensures.swept in
+    (swept-named c.self.inside.modules.items c.self.inside.regions.items ms rs c.seat_of-seat.result c.args.dimm to
+    (subst (λ (xs : List LoadedModule). c.seat_of-seat.result < length xs) c.deref.ensures.value c.seat_of-seat.ensures.within)
+    (seat-named c.self.inside.modules.items c.deref.result.now c.seat_of-seat.result c.args.dimm c.deref.ensures.value c.seat_of-seat.ensures.within c.seat_of-seat.ensures.dimm)
+    place d lt is).free
+    ∙ spare-there (platform_of rs) ms to.once place d lt c.args.dimm is

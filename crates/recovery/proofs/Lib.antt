@@ -1,0 +1,6 @@
+pub mod Counting
+pub mod Pending
+pub mod Full
+pub mod Joined
+pub mod Swept
+pub mod Healed
