@@ -260,10 +260,9 @@ size=4194304 spare=508\n";
     says_alone(&rt, &reply, text);
     let text = "ok destroyed uuid=0f6b1a52-7c3e-4d28-9a41-5be0c7d2e814\n";
     says_alone(&rt, &Reply::Destroyed { uuid: U2 }, text);
-    let reply = Reply::Renamed {
-        uuid: U1,
-        name: other().space.name,
-    };
+    let space = other().space;
+    let name = space.name;
+    let reply = Reply::Renamed { uuid: U1, name };
     let text = "ok renamed uuid=0f6b1a52-7c3e-4d28-9a41-5be0c7d2e813 \
 name=%25%22%20%E9xxxxxxxxxxxxxxxxxxxxxxxxxxxxxxxxxxxxxxxxxxxxxxxxxxxxxxxxxxxx\n";
     says_alone(&rt, &reply, text);
