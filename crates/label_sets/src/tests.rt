@@ -1,4 +1,4 @@
-ghost use Rattle.std.specs.Prelude.{◌≡◌, IfOk};
+ghost use Rattle.std.specs.Prelude.{◌≡◌, IfOk, None};
 ghost use Rattle.region_map.specs.Platforms.{IsSound};
 
 use super::*;
@@ -204,7 +204,9 @@ fn rig_of(
     alloc: Global,
     first: &[Stored],
     second: Option<&[Stored]>,
-) -> Result<MemoryRig, AllocError> {
+) -> Result<MemoryRig, AllocError>
+    ensures { IfOk result (λ rig. rig.keeping ≡ None) }
+{
     let mut rig = MemoryRig::new(alloc, 0)?;
     rig.add(0x1, area_with(alloc, first)?)?;
     if let Some(second) = second {
