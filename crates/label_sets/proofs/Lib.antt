@@ -9,6 +9,7 @@ pub mod Swept
 pub mod Sweeping
 pub mod SweptSets
 pub mod SpareSlots
+pub mod TightSlots
 pub mod InitialisedSets
 pub mod Refusals
 pub mod InitSets

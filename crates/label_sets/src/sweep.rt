@@ -31,6 +31,7 @@ impl Sets {
     ghost use Rattle.region_sets.specs.Modules.{size_in};
     ghost use Rattle.label_sets.specs.Sets as sets;
     ghost use Rattle.label_sets.specs.Sets.{platform_in, state_in};
+    ghost use Rattle.std.specs.Prelude.{ℕ};
     ghost use Rattle.label_sets.specs.Sweeps.{ChangesOnly, IsFreeAsSpare, IsSweptAt};
 
     /// Frees the junk and the dead labels of a module whose area is Ready, by one flip, or by none where there are
@@ -70,6 +71,13 @@ impl Sets {
             return Err(failed);
         }
         Ok(())
+    }
+
+    /// A module with as many free slots as spare ones is swept. The function does nothing: its clause says what holds.
+    pub fn sweep_law(&self)
+        ensures { (dimm : ℕ) → IsFreeAsSpare self.now dimm → IsSweptAt self.now dimm }
+    {
+        let _modules = &self.modules;
     }
 }
 

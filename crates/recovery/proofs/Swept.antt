@@ -1,5 +1,5 @@
 -- The modules of a region are swept, one after the other.
-use Rattle.std.proofs.Common.{◌≡◌, ◌≢◌, ℕ, ◌+◌, ◌<◌, true, false, List, length, get_or, map, Result, Ok, Err, sym, ap, subst, ◌∙◌, inl, inr, arith}
+use Rattle.std.proofs.Common.{◌≡◌, ◌≢◌, ℕ, ◌+◌, ◌<◌, true, false, List, length, get_or, map, Result, Ok, Err, refl, sym, ap, subst, ◌∙◌, inl, inr, arith}
 use Rattle.std.specs.Prelude.{◌==◌, IfErr}
 use Rattle.std.specs.List.{All, list_all}
 use Rattle.std.specs.Result.{is_err}
@@ -13,9 +13,9 @@ use Rattle.label_area.specs.Flips.{is_among}
 use Rattle.region_map.specs.declared.platform.Member.{Member}
 use Rattle.region_map.specs.declared.platform.Region.{Region}
 use Rattle.label_table.specs.Belonging.{member_at, no_member}
-use Rattle.label_table.specs.Tables.{State, state}
+use Rattle.label_table.specs.Tables.{State, is_member, state}
 use Rattle.label_table.specs.Wholes.{all_ready}
-use Rattle.label_table.proofs.ListTests.{Contains-get_or, eq_same, eq_true, list_all-at, list_any-found}
+use Rattle.label_table.proofs.ListTests.{Contains-get_or, eq_same, eq_true, list_all-at, list_any-at, list_any-found}
 use Rattle.region_sets.specs.Modules.{dimm_of, size_in}
 use Rattle.region_sets.specs.Regions.{handles}
 use Rattle.region_sets.proofs.Seated.{handle-at, length-handles}
@@ -105,3 +105,10 @@ free-more s now r position same changes dimms here before k lt = elim (cases_eq 
   where
     below : (a b : ℕ) → a ≢ b → a < b + 1 → a < b
     below a b differ lt = grind arith
+
+-- so each module at a position is as free as it is spare
+pub free-at : (sets : StoredSets) (r : Region) → All (HasSpareFree sets r) sets.modules → (position : ℕ) → position < length r.members → IsFreeAsSpare sets (member_at r position).handle
+free-at sets r all position lt place d place_lt is =
+    let h = (member_at r position).handle in
+    let member : is_member r h ≡ true = list_any-at (λ (x : Member). x.handle == h) r.members (member_at r position) (Contains-get_or r.members position no_member lt) (eq_same h h refl) in
+    all place d place_lt (ap (is_member r) is ∙ member) ∙ ap (state_in sets).table.spare is

@@ -1,12 +1,13 @@
 -- What the recovery of a region makes of the state, and where it cannot be made.
 use Rattle.std.specs.Prelude.{◌≡◌, ◌≢◌, ℕ, ◌==◌, nat_lt, false, true, List, [], ◌∷◌, Option, None, Some, Result}
-use Rattle.std.specs.Prelude.{Err, Ok, count_by, if◌then◌else◌}
+use Rattle.std.specs.Prelude.{◌<◌, Err, Ok, count_by, length, if◌then◌else◌}
 use Rattle.std.specs.List.{All}
 use Rattle.rig_trait.specs.declared.shown.Shown.{Ghosts}
 use Rattle.rig_trait.specs.Frames.{FailsAt}
 use Rattle.module_labels.specs.Labels.{Labels}
 use Rattle.region_map.specs.declared.platform.Member.{Member}
 use Rattle.region_map.specs.declared.platform.Region.{Region}
+use Rattle.label_table.specs.Belonging.{member_at}
 use Rattle.label_table.specs.Namespaces.{namespaces}
 use Rattle.label_table.specs.Spaces.{Space, is_pending}
 use Rattle.label_table.specs.Tables.{is_member}
@@ -14,6 +15,7 @@ use Rattle.region_sets.specs.declared.modules.LoadedModule.{LoadedModule}
 use Rattle.module_flips.specs.Stops.{FailedAmong}
 use Rattle.module_flips.specs.Together.{free_slots}
 use Rattle.label_sets.specs.Sets.{StoredSets, labels_in, state_in}
+use Rattle.label_sets.specs.Sweeps.{IsSweptAt}
 use Rattle.recovery.specs.declared.region.RecoverFault.{RecoverFault}
 use Rattle.recovery.specs.declared.region.RecoverFault.TheVariants.{Failed, Unhealed}
 
@@ -51,8 +53,13 @@ abbrev pub HasSpareFree : StoredSets → Region → LoadedModule → Type 0
 HasSpareFree sets region loaded = is_member region loaded.dimm ≡ true
     → free_slots loaded ≡ (state_in sets).table.spare loaded.dimm
 
+-- each module of the region is swept: it has neither junk nor dead labels
+abbrev pub AreSwept : StoredSets → Region → Type 0
+AreSwept sets region = (position : ℕ) → position < length region.members
+    → IsSweptAt sets (member_at region position).handle
+
 -- The table is as before. No namespace of the region is pending, the marks of all other regions are as before, and in
--- each of the region's modules as many slots are free as are spare: they have neither junk nor dead labels.
+-- each of the region's modules as many slots are free as are spare.
 pub record IsRecovered (before after : StoredSets) (region : Region) : Type 0 where
   pub same_table : (state_in after).table ≡ (state_in before).table
   pub none_pending : (uuid : List ℕ) → (state_in after).pending region.index uuid ≡ false

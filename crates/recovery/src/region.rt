@@ -13,7 +13,7 @@ ghost use Rattle.module_flips.specs.Stops.{HasAreaCause, LeftIn, WritesAmong};
 ghost use Rattle.module_flips.specs.Stored.{StandsIn};
 ghost use Rattle.label_sets.specs.Sets.{labels_in, platform_in, state_in};
 ghost use Rattle.label_sets.specs.Staging.{OfRegion};
-ghost use Rattle.recovery.specs.Recovery.{HasCause, IsRecovered, WhereUnhealed, unhealed_at, unhealed_by};
+ghost use Rattle.recovery.specs.Recovery.{AreSwept, HasCause, IsRecovered, WhereUnhealed, unhealed_at, unhealed_by};
 ghost use Rattle.recovery.specs.Steps.{IsStep};
 
 use crate::heals::heal_pending;
@@ -49,6 +49,7 @@ pub fn recover<R: Rig>(
     requires ready { OfRegion sets.old region (λ found. status (labels_in sets.old) found ≡ RegionReady) }
     requires sized { IsTold R.Shown rig.old → All (IsSizedIn (R.areas rig.old)) sets.old.modules }
     ensures recovered { OfRegion sets.old region (λ found. OnOk result (IsRecovered sets.old sets.new found)) }
+    ensures swept { OfRegion sets.old region (λ found. OnOk result (AreSwept sets.new found)) }
     ensures unhealed { OfRegion sets.old region (λ found. unhealed_by result ≡ unhealed_at sets.old found) }
     ensures unwritten { IfErr result (WhereUnhealed (rig.new ≡ rig.old)) }
     ensures kept { IfErr result (WhereUnhealed (sets.new ≡ sets.old)) }
@@ -71,7 +72,10 @@ pub fn recover<R: Rig>(
     }
     match platform.region(region) {
         Some(found) => match recover_members(rig, platform, sets, found) {
-            Ok(()) => Ok(()),
+            Ok(()) => {
+                sets.sweep_law();
+                Ok(())
+            }
             Err(failed) => Err(RecoverFault::Failed { dimm: failed.dimm }),
         },
         None => unreachable!(),
