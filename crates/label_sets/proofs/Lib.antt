@@ -17,3 +17,4 @@ pub mod FreeAfter
 pub mod Stageable
 pub mod Written
 pub mod EntryCounts
+pub mod SparedSlots

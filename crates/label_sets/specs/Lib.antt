@@ -10,3 +10,4 @@ pub mod Largest
 pub mod Lookups
 pub mod Staging
 pub mod Healing
+pub mod Spared

@@ -10,6 +10,7 @@ mod lookups;
 mod read;
 mod room;
 mod sets;
+mod spared;
 mod staging;
 mod sweep;
 mod views;

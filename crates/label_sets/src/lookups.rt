@@ -2,10 +2,12 @@
 
 ghost use Rattle.std.specs.Prelude.{◌≡◌, ◌<◌, Some, find};
 ghost use Rattle.std.specs.Option.{option_copied, option_map};
+ghost use Rattle.label_table.specs.Statuses.{status};
 ghost use Rattle.region_lookups.specs.Holders.{IsHolder};
 ghost use Rattle.region_lookups.specs.Named.{named_in};
 ghost use Rattle.region_lookups.specs.Spaces.{has_name_beside, listed_spaces, shows_pending};
 ghost use Rattle.region_sets.specs.Marks.{namespace_at};
+ghost use Rattle.region_sets.specs.Statuses.{shown_status};
 ghost use Rattle.label_sets.specs.Lookups.{FitsFirst, IsKeptIn, LacksSpare, in_region, uuid_of};
 ghost use Rattle.label_sets.specs.Sets.{labels_in, platform_in};
 
@@ -14,9 +16,19 @@ use crate::sets::Sets;
 use crate::views::place_of;
 use region_lookups::{ModuleSpare, Named};
 use region_sets::RegionLabels;
-use view_types::Namespace;
+use view_types::{Namespace, Status};
 
 impl Sets {
+    /// The status of a region. `None` exactly where the platform has no such region.
+    pub fn status(&self, region: u16) -> Option<Status>
+        ensures { result ≡ in_region self.now region (λ r. Some (shown_status (status (labels_in self.now) r))) }
+    {
+        let Some(kept) = self.kept(region) else {
+            return None;
+        };
+        Some(region_lookups::status(&self.modules, kept))
+    }
+
     /// The namespace of a region with a uuid. `None` exactly where the platform has no such region, or the region no
     /// such namespace.
     pub fn namespace(&self, region: u16, uuid: &[u8; 16]) -> Option<Namespace>

@@ -7,7 +7,7 @@ use Rattle.spa_translate.specs.Woven.{Woven}
 use Rattle.table_steps.specs.Refusals.{first_of, unknown_region, unusable}
 use Rattle.namespace_core.specs.Translations.{IsWoven, no_translation, untranslated}
 
-or_more : (a b c : Option Refusal) (more : Option Refusal) (refusal : Refusal) → option_or a (option_or b (option_or c None)) ≡ Some refusal → option_or a (option_or b (option_or c more)) ≡ Some refusal
+pub or_more : (a b c : Option Refusal) (more : Option Refusal) (refusal : Refusal) → option_or a (option_or b (option_or c None)) ≡ Some refusal → option_or a (option_or b (option_or c more)) ≡ Some refusal
 or_more (Some a) b c more refusal is = is
 or_more None (Some b) c more refusal is = is
 or_more None None (Some c) more refusal is = is

@@ -5,3 +5,9 @@ pub mod ListedSpaces
 pub mod HeldLists
 pub mod LookUps
 pub mod Holding
+pub mod Refused
+pub mod PutSpaces
+pub mod JoinedSteps
+pub mod AcceptedCreates
+pub mod RecoveredSpaces
+pub mod CreateEnds

@@ -19,14 +19,13 @@ use Rattle.label_table.specs.Namespaces.{namespaces}
 use Rattle.label_table.specs.Spaces.{Space, is_pending}
 use Rattle.label_table.proofs.ListTests.{lt_from, lt_not}
 use Rattle.region_sets.specs.Marks.{listed_in}
-use Rattle.region_lookups.specs.declared.named.Named.{Named}
-use Rattle.region_lookups.specs.declared.named.Named.TheVariants as named
 use Rattle.region_lookups.specs.declared.positions.ModuleSpare.{ModuleSpare}
 use Rattle.region_lookups.specs.Named.{named_among, named_in}
 use Rattle.region_lookups.specs.Positions.{IsFirstWithoutSpare, spare_at}
 use Rattle.region_lookups.specs.Spaces.{has_name, listed_spaces, shows_pending}
 use Rattle.table_steps.specs.Create.{is_named, is_unnamed, name_in_use_in, no_space_in}
 use Rattle.table_steps.specs.Refusals.{any_pending, first_below, no_slots_in, refused_if, unhealed_in}
+use Rattle.namespace_core.specs.Create.{first_named}
 
 -- Lists.
 
@@ -99,11 +98,6 @@ unhealed-told P L r found is = ap (λ o. if any_pending L r then option_map (λ 
     by (Some m) is = λ i. Some (Unhealed (sym is.dimm_is i))
 
 -- The first namespace with a name is the one that a refusal names.
-abbrev pub first_named : Named → Option (List ℕ)
-first_named named.None = None
-first_named (named.One space) = Some space.uuid
-first_named (named.Several count first) = Some first.uuid
-
 head-named : (n : Namespace) (ns : List Namespace) → first_named (named_among (n ∷ ns)) ≡ Some n.uuid
 head-named n [] = refl
 head-named n (m ∷ ns) = refl

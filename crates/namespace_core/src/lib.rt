@@ -1,10 +1,13 @@
 //! The commands on a platform: why each is refused, and its reply.
 #![tactic(auto)]
 
+mod create_refusals;
+mod creation;
 mod lists;
 mod refusals;
 mod translations;
 
+pub use creation::{ChangeFault, create};
 pub use lists::{Query, show};
 pub use translations::{to_module, to_runs, to_spa};
 

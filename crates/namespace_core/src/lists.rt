@@ -226,7 +226,7 @@ fn ready_view(
 }
 
 /// Why nothing is told of a region with this status.
-fn refusal_by(status: Status) -> Option<Refusal>
+pub(crate) fn refusal_by(status: Status) -> Option<Refusal>
     ensures { result ≡ refusal_by status }
 {
     match status {

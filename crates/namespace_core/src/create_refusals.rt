@@ -1,0 +1,164 @@
+//! Why a create is refused: look-ups in the state, without memory.
+
+ghost use Rattle.std.specs.Prelude.{◌≡◌, List, Some};
+ghost use Rattle.view_types.specs.declared.extents.Extent.{Extent};
+ghost use Rattle.region_map.specs.Platforms.{IsSound, region_at};
+ghost use Rattle.label_table.specs.Division.{AreFreeExtents};
+ghost use Rattle.label_table.specs.Statuses.{RegionReady, status};
+ghost use Rattle.label_sets.specs.Sets.{labels_in, platform_in};
+ghost use Rattle.label_sets.specs.Staging.{OfRegion};
+ghost use Rattle.table_steps.specs.Create as table;
+ghost use Rattle.table_steps.specs.Create.{is_unnamed, name_in_use_in, no_space_in};
+ghost use Rattle.table_steps.specs.Refusals.{no_slots_in, unhealed_in};
+ghost use Rattle.namespace_core.specs.Create.{IsCreateRefusal, first_named};
+ghost use Rattle.namespace_core.specs.Lists.{IsStateOf};
+
+use crate::lists::refusal_by;
+use label_sets::Sets;
+use region_lookups::Named;
+use region_map::{Platform, Region};
+use table_steps::{NewNamespace, bad_size};
+use view_types::Refusal;
+
+/// Each module of the region needs two spare slots: one stays for what is written later, as the labels of a recovery.
+const LEAST_SPARE: u32 = 2;
+
+/// The first refusal of a create that applies. `None` exactly where it is accepted.
+pub(crate) fn create_refusal(
+    platform: &Platform,
+    sets: &Sets,
+    asked: &NewNamespace,
+) -> Option<Refusal>
+    requires sound { IsSound platform.now }
+    requires state { IsStateOf platform.now sets.now }
+    ensures { IsCreateRefusal platform.now (labels_in sets.now) asked.now result }
+{
+    let Some(status) = sets.status(asked.region) else {
+        return Some(Refusal::UnknownRegion {
+            region: asked.region,
+        });
+    };
+    let Some(region) = platform.region(asked.region) else {
+        // The state has no other regions.
+        unreachable!()
+    };
+    match refusal_by(status) {
+        Some(refusal) => Some(refusal),
+        None => ready_refusal(platform, sets, region, asked),
+    }
+}
+
+/// The first refusal of a create in a region that is Ready.
+fn ready_refusal(
+    platform: &Platform,
+    sets: &Sets,
+    region: &Region,
+    asked: &NewNamespace,
+) -> Option<Refusal>
+    requires sound { IsSound platform.now }
+    requires state { IsStateOf platform.now sets.now }
+    requires known { region_at platform.now asked.now.region ≡ Some region.now }
+    requires ready { status (labels_in sets.now) region.now ≡ RegionReady }
+    ensures { IsCreateRefusal platform.now (labels_in sets.now) asked.now result }
+{
+    let index = asked.region;
+    // An accepted create makes each of these look-ups.
+    unhealed(sets, index)
+        .or(bad_size(asked.size, region))
+        .or(name_in_use(sets, index, &asked.name))
+        .or(uuid_in_use(platform, sets, &asked.uuid))
+        .or(no_space(sets, index, asked.size))
+        .or(no_slots(sets, index))
+}
+
+/// A namespace of the region is pending, and one of its modules has no slot for the labels of a recovery.
+fn unhealed(sets: &Sets, index: u16) -> Option<Refusal>
+    ensures { OfRegion sets.now index (λ region. result
+        ≡ unhealed_in (platform_in sets.now) (labels_in sets.now) region) }
+{
+    match sets.first_pending(index) {
+        Some(_) => match sets.first_without_spare(index, 1) {
+            Some(short) => Some(Refusal::Unhealed { dimm: short.dimm }),
+            None => None,
+        },
+        None => None,
+    }
+}
+
+/// A namespace of the region has the name.
+fn name_in_use(sets: &Sets, index: u16, name: &[u8; 64]) -> Option<Refusal>
+    ensures { OfRegion sets.now index (λ region. result ≡ name_in_use_in (labels_in sets.now) name.now region) }
+{
+    if is_unnamed(name) {
+        return None;
+    }
+    let Some(named) = sets.namespaces_named(index, name) else {
+        return None;
+    };
+    match first_named(&named) {
+        Some(uuid) => Some(Refusal::NameInUse { uuid }),
+        None => None,
+    }
+}
+
+/// The uuid of the first namespace with a name.
+fn first_named(named: &Named) -> Option<[u8; 16]>
+    ensures { result ≡ first_named named.now }
+{
+    match named {
+        Named::None => None,
+        Named::One(space) => {
+            let uuid = space.uuid;
+            Some(uuid)
+        }
+        Named::Several { first, .. } => {
+            let uuid = first.uuid;
+            Some(uuid)
+        }
+    }
+}
+
+/// Whether a name is empty.
+fn is_unnamed(name: &[u8; 64]) -> bool
+    ensures { result ≡ is_unnamed name.now }
+{
+    name[0] == 0
+}
+
+/// A label with the uuid stands in the area of a module, and is not dead.
+fn uuid_in_use(platform: &Platform, sets: &Sets, uuid: &[u8; 16]) -> Option<Refusal>
+    requires sound { IsSound platform.now }
+    requires state { IsStateOf platform.now sets.now }
+    ensures { result ≡ table.uuid_in_use platform.now (labels_in sets.now) uuid.now }
+{
+    match sets.holder_of(uuid) {
+        Some(dimm) => Some(Refusal::UuidInUse { dimm }),
+        None => None,
+    }
+}
+
+/// The greatest namespace that the free extents of the region have room for is smaller than `size` bytes.
+fn no_space(sets: &Sets, index: u16, size: u64) -> Option<Refusal>
+    ensures { OfRegion sets.now index (λ region. (free : List Extent)
+        → AreFreeExtents (platform_in sets.now) (labels_in sets.now) region free
+        → result ≡ no_space_in free size region) }
+{
+    match sets.largest(index) {
+        Some(largest) if largest < size => Some(Refusal::NoSpace { largest }),
+        _ => None,
+    }
+}
+
+/// A module of the region has too few slots for the label of a new namespace.
+fn no_slots(sets: &Sets, index: u16) -> Option<Refusal>
+    ensures { OfRegion sets.now index (λ region. result
+        ≡ no_slots_in (platform_in sets.now) (labels_in sets.now) 2 region) }
+{
+    match sets.first_without_spare(index, LEAST_SPARE) {
+        Some(short) => Some(Refusal::NoSlots {
+            dimm: short.dimm,
+            spare: short.spare,
+        }),
+        None => None,
+    }
+}
