@@ -16,6 +16,9 @@ PAIR = Region(1, 0x1_0000_0000, [Mapping(0x1, 1, PART), Mapping(0x101, 2, PART, 
 MOST = (1 << 64) - 1
 GIB, TIB = 1 << 30, 1 << 40
 OUTSIDE = "refused outside\n"
+UUID = "0f6b1a52-7c3e-4d28-9a41-5be0c7d2e813"
+LETTERS, DIGITS = "ABCDEFGHIJKLMNOPQRSTUVWXYZ", "0123456789"
+NAME_CHARACTERS = LETTERS + LETTERS.lower() + DIGITS + "._-"
 
 
 def unknown_region(index: int) -> str:
@@ -38,6 +41,8 @@ def commands():
         ("  init-labels   dimm=0xFFffffff  ", "refused unknown-dimm dimm=0xffffffff\n"),
         ("init-labels dimm=4294967295", "refused unknown-dimm dimm=0xffffffff\n"),
         ("init-labels dimm=1".ljust(4096), ready),
+        ("create-namespace region=2 size=4M", unknown_region(2)),
+        (f"create-namespace uuid={UUID.upper()} sector-size=4096 mode=devdax name=db0 size=16G region=3", unknown_region(3)),
         ("list", "ok namespaces=0\n"), ("list region=1", "ok namespaces=0\n"), ("list region=0xffff", unknown_region(65535)),
         ("list-regions", status + "ok regions=1\n"),
         ("list-free region=1", free((0, PART), largest=2 * PART)),
@@ -74,7 +79,17 @@ def faults():
         ("init-labels dimm=4294967296", "value key=dimm"), ("init-labels dimm=0x100000000", "value key=dimm"),
         ("init-labels dimm==1", "value key=dimm"), ("list region=0x10000", "value key=region"),
         ("list-held dimm=1 ".ljust(4096) + "#", "too-long"),
+        ("create-namespace region=x name=/", "missing key=size"), ("create-namespace size=x uuid=x", "missing key=region"),
+        ("create-namespace region=2 size=1 dimm=1", "key piece=3"), ("create-namespace mode=x mode=x", "twice key=mode"),
+        ("create-namespace size=1 region=2 Name=x", "key piece=3"), ("create-namespace uuid= uuid=", "twice key=uuid"),
+        ("create-namespace sector-size=512 name=x sector-size", "key piece=3"), ("create-namespace name= name", "key piece=2"),
+        ("create-namespace sector=512", "key piece=1"), ("create-namespace abstraction=raw", "key piece=1"),
     )
+    bad = ("region=x", "size=x", "name=/", "mode=x", "sector-size=x", "uuid=x")
+    sound = ("region=2", "size=1", "name=x", "mode=raw", "sector-size=512")
+    for count, piece in enumerate(bad):
+        pieces = " ".join(reversed(sound[:count] + bad[count:]))
+        yield f"create-namespace {pieces}", f"value key={piece.split('=')[0]}"
 
 
 def numbers():
@@ -94,6 +109,32 @@ def numbers():
         ("17179869183G", None, MOST - GIB + 1), ("17179869184G", None, None), ("K", None, None), ("1k", None, None),
         ("1KK", None, None), ("0x1K", None, None), ("1P", None, None), ("1KB", None, None),
     )
+
+
+def values():
+    """Pieces of a namespace that is made, and whether their values are of their kinds."""
+    yield from ((f"name={byte:c}", chr(byte) in NAME_CHARACTERS) for byte in range(0x21, 0x7f))
+    yield from (
+        ("name=", True), ("name=" + "x" * 63, True), ("name=" + "x" * 64, False), ("name=" + "." * 4000, False),
+        ("name=" + NAME_CHARACTERS[:63], True), ("name=a/b", False), ("name=x=x", False), ("name=0x1", True),
+        (f"name={UUID}", False), (f"name={UUID.upper()}", False), (f"name={UUID}0", True), (f"name={UUID[:-1]}", True),
+        (f"name={UUID[:-1]}g", True), (f"name={UUID.replace('-', '')}", True), (f"name={UUID.replace('-', '_')}", True),
+        (f"name={'-' * 36}", True), (f"name={{{UUID}}}", False),
+        ("mode=raw", True), ("mode=sector", True), ("mode=fsdax", True), ("mode=devdax", True), ("mode=", False),
+        ("mode=Raw", False), ("mode=RAW", False), ("mode=ra", False), ("mode=raws", False), ("mode=raw=", False),
+        ("sector-size=512", True), ("sector-size=4096", True), ("sector-size=", False), ("sector-size=0512", False),
+        ("sector-size=0x200", False), ("sector-size=4K", False), ("sector-size=520", False), ("sector-size=1024", False),
+        ("sector-size=512.", False), ("sector-size=0", False), ("sector-size=+512", False), ("sector-size=04096", False),
+        (f"uuid={UUID}", True), (f"uuid={UUID.upper()}", True), (f"uuid={UUID[:18].upper()}{UUID[18:]}", True),
+        ("uuid=00000000-0000-0000-0000-000000000000", True), ("uuid=ffffffff-ffff-ffff-ffff-ffffffffffff", True),
+        ("uuid=", False), (f"uuid={UUID}0", False), (f"uuid={UUID[:-1]}", False), (f"uuid={UUID[:-1]}g", False),
+        (f"uuid={{{UUID}}}", False), (f"uuid=urn:uuid:{UUID}", False), (f"uuid={'-' * 36}", False),
+        (f"uuid={UUID.replace('-', '')}", False), (f"uuid={UUID.replace('-', '_')}", False),
+        (f"uuid={UUID[1:9]}{UUID[0]}{UUID[9:]}", False),
+    )
+    for at in range(36):
+        text = UUID[:at] + "-" * (UUID[at] != "-") + "0" * (UUID[at] == "-") + UUID[at + 1:]
+        yield from ((f"name={text}", True), (f"uuid={text}", False))
 
 
 def address(number) -> str:
@@ -128,6 +169,12 @@ def rows():
         yield f"to-module region=1 spa={text}", "refused words value key=spa\n" if number is None else OUTSIDE
         yield f"to-spa region=1 dimm=1 dpa={text}", address(number)
         yield f"to-runs region=1 spa=0x100000000 length={text}", behind(length)
+        size = "refused words value key=size\n" if length is None else unknown_region(2)
+        yield f"create-namespace region=2 size={text}", size
+    for piece, is_of_its_kind in values():
+        key = piece.split("=")[0]
+        fault = f"refused words value key={key}\n"
+        yield f"create-namespace region=2 size=1 {piece}", unknown_region(2) if is_of_its_kind else fault
     for text in ("4294979589", "00000000004294979589", "0x100003005", "0x0000000100003005"):
         yield f"to-module region=1 spa={text}", "ok dimm=0x00000101 dpa=0x0000000000001005\n"
     yield "to-module region=1 spa=0x10000aBcD", "ok dimm=0x00000001 dpa=0x0000000000005bcd\n"

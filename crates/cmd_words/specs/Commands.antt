@@ -1,22 +1,21 @@
 -- The commands, with their keys, and the values that they take.
-use Rattle.std.specs.Prelude.{ℕ, ◌^◌, List, [], ◌∷◌, Option, Some, None, Result, Ok, Err, codes, if◌then◌else◌, ok_or}
-use Rattle.std.specs.Option.{option_and_then}
+use Rattle.std.specs.Prelude.{ℕ, ◌^◌, List, [], ◌∷◌, Option, Some, None, Result, Ok, Err, codes, if◌then◌else◌}
 use Rattle.std.specs.Str.{bytes_eq}
 use Rattle.view_types.specs.declared.key.Key.{Key}
-use Rattle.view_types.specs.declared.key.Key.TheVariants.{Dimm, Region, Spa, Dpa, Length}
+use Rattle.view_types.specs.declared.key.Key.TheVariants.{Dimm, Region, Size, Name, Mode, SectorSize, Uuid, Spa, Dpa, Length}
 use Rattle.view_types.specs.declared.word_fault.WordFault.{WordFault}
-use Rattle.view_types.specs.declared.word_fault.WordFault.TheVariants.{Value}
+use Rattle.view_types.specs.Modes.{abstraction_of}
 use Rattle.cmd_words.specs.declared.commands.Command.{Command}
 use Rattle.cmd_words.specs.declared.commands.Command.TheVariants as command
 use Rattle.cmd_words.specs.declared.commands.Verb.{Verb}
-use Rattle.cmd_words.specs.declared.commands.Verb.TheVariants.{InitLabels, ListSpaces, ListRegions, ListFree, ListHeld, ToModule, ToSpa, ToRuns}
-use Rattle.cmd_words.specs.Keys.{given}
-use Rattle.cmd_words.specs.Numbers.{below, number, size}
+use Rattle.cmd_words.specs.declared.commands.Verb.TheVariants.{InitLabels, Create, ListSpaces, ListRegions, ListFree, ListHeld, ToModule, ToSpa, ToRuns}
+use Rattle.cmd_words.specs.Values.{mode_or_raw, name_or_empty, number_for, optional_region, optional_uuid, sector_size_or_512, size_for}
 
 -- the first piece of a command
 abbrev pub verb_of : List ℕ → Option Verb
 verb_of piece =
     if bytes_eq piece (codes "init-labels") then Some InitLabels
+    else if bytes_eq piece (codes "create-namespace") then Some Create
     else if bytes_eq piece (codes "list") then Some ListSpaces
     else if bytes_eq piece (codes "list-regions") then Some ListRegions
     else if bytes_eq piece (codes "list-free") then Some ListFree
@@ -29,6 +28,7 @@ verb_of piece =
 -- its keys, in the order in which they are tested
 abbrev pub keys_of : Verb → List Key
 keys_of InitLabels = Dimm ∷ []
+keys_of Create = Region ∷ Size ∷ Name ∷ Mode ∷ SectorSize ∷ Uuid ∷ []
 keys_of ListSpaces = Region ∷ []
 keys_of ListRegions = []
 keys_of ListFree = Region ∷ []
@@ -39,16 +39,9 @@ keys_of ToRuns = Region ∷ Spa ∷ Length ∷ []
 
 -- those of them that may not be left out
 abbrev pub required_of : Verb → List Key
+required_of Create = Region ∷ Size ∷ []
 required_of ListSpaces = []
 required_of verb = keys_of verb
-
--- what the first of these pieces which gives a value to a key gives to it, as a number below a bound
-abbrev pub number_for : Key → ℕ → List (List ℕ) → Result ℕ WordFault
-number_for key bound pieces = ok_or (below bound (option_and_then number (given key pieces))) (Value key)
-
--- the same as a size
-abbrev pub size_for : Key → List (List ℕ) → Result ℕ WordFault
-size_for key pieces = ok_or (below (2 ^ 64) (option_and_then size (given key pieces))) (Value key)
 
 -- what comes next, unless there is a fault
 abbrev pub and_then : {A : Type 0} → Result A WordFault → (A → Result Command WordFault) → Result Command WordFault
@@ -57,16 +50,6 @@ and_then (Err fault) next = Err fault
 
 abbrev pub region_then : List (List ℕ) → (ℕ → Result Command WordFault) → Result Command WordFault
 region_then pieces next = and_then (number_for Region (2 ^ 16) pieces) next
-
--- a value that may be left out: what it is where it is given
-abbrev pub value_if : Option (List ℕ) → Result ℕ WordFault → Result (Option ℕ) WordFault
-value_if None value = Ok None
-value_if (Some text) (Ok value) = Ok (Some value)
-value_if (Some text) (Err fault) = Err fault
-
--- the index of a region, where a piece gives one
-abbrev pub optional_region : List (List ℕ) → Result (Option ℕ) WordFault
-optional_region pieces = value_if (given Region pieces) (number_for Region (2 ^ 16) pieces)
 
 abbrev pub optional_region_then : List (List ℕ) → (Option ℕ → Result Command WordFault) → Result Command WordFault
 optional_region_then pieces next = and_then (optional_region pieces) next
@@ -83,6 +66,10 @@ size_then key pieces next = and_then (size_for key pieces) next
 -- the command with the values of its keys, or the first that is not of its kind
 abbrev pub command_of : Verb → List (List ℕ) → Result Command WordFault
 command_of InitLabels pieces = dimm_then pieces (λ dimm. Ok (command.InitLabels dimm))
+command_of Create pieces =
+    region_then pieces (λ region. size_then Size pieces (λ size. and_then (name_or_empty pieces) (λ name.
+    and_then (mode_or_raw pieces) (λ mode. and_then (sector_size_or_512 pieces) (λ sector. and_then (optional_uuid pieces) (λ uuid.
+    Ok (command.Create region size name (abstraction_of mode) sector uuid)))))))
 command_of ListSpaces pieces = optional_region_then pieces (λ region. Ok (command.ListSpaces region))
 command_of ListRegions pieces = Ok command.ListRegions
 command_of ListFree pieces = region_then pieces (λ region. Ok (command.ListFree region))

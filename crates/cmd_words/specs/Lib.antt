@@ -1,5 +1,9 @@
 pub mod Pieces
 pub mod Keys
 pub mod Numbers
+pub mod Uuids
+pub mod Names
+pub mod Modes
+pub mod Values
 pub mod Commands
 pub mod Lines

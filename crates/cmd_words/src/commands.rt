@@ -1,38 +1,73 @@
 //! The commands, with their keys, and the values that they take.
 
-ghost use Rattle.std.specs.Prelude.{◌≡◌, ◌+◌, ◌^◌};
-ghost use Rattle.cmd_words.specs.Commands.{command_of, keys_of, number_for, optional_region, required_of, size_for, verb_of};
+ghost use Rattle.std.specs.Prelude.{◌≡◌};
+ghost use Rattle.cmd_words.specs.Commands.{command_of, keys_of, required_of, verb_of};
 ghost use Rattle.cmd_words.specs.Pieces.{pieces};
 
-use crate::keys::given;
-use crate::numbers::{read_number, read_size};
+use crate::values::{
+    address, dimm, mode_or_raw, name_or_empty, optional_region, optional_uuid, region,
+    sector_size_or_512, size,
+};
 use view_types::{Key, WordFault};
 
 /// A command.
 #[derive(Clone, Copy, Debug, PartialEq, Eq)]
 pub enum Command {
     /// The label storage area of the module with this device handle is initialised.
-    InitLabels { dimm: u32 },
+    InitLabels {
+        dimm: u32,
+    },
+    /// A namespace is made in the region with an index. Where no uuid is given it gets one of its own.
+    Create {
+        region: u16,
+        /// In bytes of all members.
+        size: u64,
+        /// With zeros behind it.
+        name: [u8; 64],
+        /// The GUID of the abstraction, in the form of EFI: how the bytes of the namespace are used.
+        abstraction: [u8; 16],
+        /// The size of a sector in bytes.
+        sector: u64,
+        uuid: Option<[u8; 16]>,
+    },
     /// The namespaces of a region, or of all regions that are Ready.
-    ListSpaces { region: Option<u16> },
+    ListSpaces {
+        region: Option<u16>,
+    },
     /// All regions.
     ListRegions,
     /// The free extents of a region.
-    ListFree { region: u16 },
+    ListFree {
+        region: u16,
+    },
     /// The held labels of the module with this device handle.
-    ListHeld { dimm: u32 },
+    ListHeld {
+        dimm: u32,
+    },
     /// The module and the device physical address of a system physical address in a region.
-    ToModule { region: u16, spa: u64 },
+    ToModule {
+        region: u16,
+        spa: u64,
+    },
     /// The system physical address of a device physical address of a module in a region.
-    ToSpa { region: u16, dimm: u32, dpa: u64 },
+    ToSpa {
+        region: u16,
+        dimm: u32,
+        dpa: u64,
+    },
     /// The module addresses of a range of system physical addresses in a region. The length is in bytes.
-    ToRuns { region: u16, spa: u64, length: u64 },
+    ToRuns {
+        region: u16,
+        spa: u64,
+        length: u64,
+    },
 }
 
 /// The first piece of a command: which it is.
 #[derive(Clone, Copy, Debug, PartialEq, Eq)]
 pub(crate) enum Verb {
     InitLabels,
+    Create,
     ListSpaces,
     ListRegions,
     ListFree,
@@ -49,6 +84,7 @@ impl Verb {
     {
         match piece {
             "init-labels" => Some(Verb::InitLabels),
+            "create-namespace" => Some(Verb::Create),
             "list" => Some(Verb::ListSpaces),
             "list-regions" => Some(Verb::ListRegions),
             "list-free" => Some(Verb::ListFree),
@@ -66,6 +102,14 @@ impl Verb {
     {
         match self {
             Verb::InitLabels | Verb::ListHeld => &[Key::Dimm],
+            Verb::Create => &[
+                Key::Region,
+                Key::Size,
+                Key::Name,
+                Key::Mode,
+                Key::SectorSize,
+                Key::Uuid,
+            ],
             Verb::ListSpaces | Verb::ListFree => &[Key::Region],
             Verb::ListRegions => &[],
             Verb::ToModule => &[Key::Region, Key::Spa],
@@ -79,6 +123,7 @@ impl Verb {
         ensures { result.now ≡ required_of self }
     {
         match self {
+            Verb::Create => &[Key::Region, Key::Size],
             Verb::ListSpaces => &[],
             _ => self.keys(),
         }
@@ -90,6 +135,7 @@ impl Verb {
     {
         match self {
             Verb::InitLabels => Ok(Command::InitLabels { dimm: dimm(text)? }),
+            Verb::Create => create(text),
             Verb::ListSpaces => Ok(Command::ListSpaces {
                 region: optional_region(text)?,
             }),
@@ -116,52 +162,16 @@ impl Verb {
     }
 }
 
-/// The index of a region.
-fn region(text: &str) -> Result<u16, WordFault>
-    ensures { result ≡ number_for Key.Region (2 ^ 16) (pieces text.now) }
+/// The namespace that is to be made by the values of a text.
+fn create(text: &str) -> Result<Command, WordFault>
+    ensures { result ≡ command_of Verb.Create (pieces text.now) }
 {
-    Ok(number(Key::Region, u16::MAX as u64, text)? as u16)
-}
-
-/// The index of a region, where a piece gives one.
-fn optional_region(text: &str) -> Result<Option<u16>, WordFault>
-    ensures { result ≡ optional_region (pieces text.now) }
-{
-    match given(Key::Region, text) {
-        None => Ok(None),
-        Some(_) => Ok(Some(region(text)?)),
-    }
-}
-
-/// A device handle.
-fn dimm(text: &str) -> Result<u32, WordFault>
-    ensures { result ≡ number_for Key.Dimm (2 ^ 32) (pieces text.now) }
-{
-    Ok(number(Key::Dimm, u32::MAX as u64, text)? as u32)
-}
-
-/// A physical address.
-fn address(key: Key, text: &str) -> Result<u64, WordFault>
-    ensures { result ≡ number_for key (2 ^ 64) (pieces text.now) }
-{
-    number(key, u64::MAX, text)
-}
-
-/// The number of a key, up to a greatest one.
-fn number(key: Key, most: u64, text: &str) -> Result<u64, WordFault>
-    ensures { result ≡ number_for key (most + 1) (pieces text.now) }
-{
-    match given(key, text).and_then(read_number) {
-        Some(number) if number <= most => Ok(number),
-        _ => Err(WordFault::Value { key }),
-    }
-}
-
-/// The size of a key.
-fn size(key: Key, text: &str) -> Result<u64, WordFault>
-    ensures { result ≡ size_for key (pieces text.now) }
-{
-    given(key, text)
-        .and_then(read_size)
-        .ok_or(WordFault::Value { key })
+    Ok(Command::Create {
+        region: region(text)?,
+        size: size(Key::Size, text)?,
+        name: name_or_empty(text)?,
+        abstraction: mode_or_raw(text)?.abstraction(),
+        sector: sector_size_or_512(text)?,
+        uuid: optional_uuid(text)?,
+    })
 }

@@ -4,8 +4,12 @@
 mod commands;
 mod keys;
 mod lines;
+mod modes;
+mod names;
 mod numbers;
 mod pieces;
+mod uuids;
+mod values;
 
 pub use commands::Command;
 pub use lines::read_line;

@@ -65,6 +65,96 @@ fn commands(rt: HostRuntime) {
     }
 }
 
+/// A namespace with no more than has to be given.
+const PLAIN: Command = Command::Create {
+    region: 1,
+    size: 4_194_304,
+    name: [0; 64],
+    abstraction: [0; 16],
+    sector: 512,
+    uuid: None,
+};
+
+/// The GUID of page frames, 266400BA-FB9F-4677-BCB0-968F11D0D225, in the form of EFI.
+const PAGE_FRAMES: [u8; 16] = [
+    0xba, 0x00, 0x64, 0x26, 0x9f, 0xfb, 0x77, 0x46, 0xbc, 0xb0, 0x96, 0x8f, 0x11, 0xd0, 0xd2, 0x25,
+];
+
+const UUID: [u8; 16] = [
+    0x0f, 0x6b, 0x1a, 0x52, 0x7c, 0x3e, 0x4d, 0x28, 0x9a, 0x41, 0x5b, 0xe0, 0xc7, 0xd2, 0xe8, 0x13,
+];
+
+/// 63 characters, with a zero behind them.
+fn longest_name() -> [u8; 64] {
+    let mut name = [b'9'; 64];
+    name[..4].copy_from_slice(b"aZ._");
+    name[62] = b'-';
+    name[63] = 0;
+    name
+}
+
+/// Namespaces that are made.
+#[test]
+fn creates(rt: HostRuntime) {
+    let lines = [
+        ("create-namespace region=1 size=4M", PLAIN),
+        (
+            "create-namespace mode=raw sector-size=512 name= size=4194304 region=0x1",
+            PLAIN,
+        ),
+        (
+            "create-namespace uuid=0F6b1A52-7c3E-4d28-9A41-5bE0C7d2e813 sector-size=4096 mode=fsdax \
+             name=aZ._9999999999999999999999999999999999999999999999999999999999- size=0 region=65535",
+            Command::Create {
+                region: u16::MAX,
+                size: 0,
+                name: longest_name(),
+                abstraction: PAGE_FRAMES,
+                sector: 4096,
+                uuid: Some(UUID),
+            },
+        ),
+    ];
+    for (line, command) in lines {
+        assert_eq!(rt; read_line(line.as_bytes()), Ok(Some(command)), "at {line}");
+    }
+}
+
+/// Values of a namespace, and the key where one is not of its kind.
+#[test]
+fn values(rt: HostRuntime) -> Result<(), Fail> {
+    let rows = [
+        ("name=0f6b1a52-7c3e-4d28-9a41-5be0c7d2e813", Some(Key::Name)),
+        ("name=0F6B1A52-7C3E-4D28-9A41-5BE0C7D2E813", Some(Key::Name)),
+        ("name=0f6b1a52-7c3e-4d28-9a41-5be0c7d2e81", None),
+        ("name=0f6b1a52-7c3e-4d28-9a41-5be0c7d2e81g", None),
+        ("name=0f6b1a52-7c3e-4d28-9a4125be0c7d2e813", None),
+        ("name=a/b", Some(Key::Name)),
+        (
+            "name=1234567890123456789012345678901234567890123456789012345678901234",
+            Some(Key::Name),
+        ),
+        ("mode=devdax", None),
+        ("mode=Raw", Some(Key::Mode)),
+        ("mode=", Some(Key::Mode)),
+        ("sector-size=0512", Some(Key::SectorSize)),
+        ("sector-size=0x200", Some(Key::SectorSize)),
+        ("uuid=0f6b1a527c3e4d289a415be0c7d2e813", Some(Key::Uuid)),
+        (
+            "uuid={0f6b1a52-7c3e-4d28-9a41-5be0c7d2e813}",
+            Some(Key::Uuid),
+        ),
+        ("uuid=0f6b1a52-7c3e-4d28-9a41-5be0c7d2e81g", Some(Key::Uuid)),
+        ("uuid=", Some(Key::Uuid)),
+    ];
+    for (piece, key) in rows {
+        let line = format!(in rt.alloc(); "create-namespace region=1 size=1 {piece}")?;
+        let fault = key.map(|key| WordFault::Value { key });
+        assert_eq!(rt; read_line(line.as_bytes()).err(), fault, "at {piece}");
+    }
+    Ok(())
+}
+
 /// Lines, and their first faults.
 #[test]
 fn faults(rt: HostRuntime) {
@@ -78,6 +168,36 @@ fn faults(rt: HostRuntime) {
         ),
         ("to-runs length=x", WordFault::Missing { key: Key::Region }),
         ("init-labels dimm==1", WordFault::Value { key: Key::Dimm }),
+        (
+            "create-namespace name=x region=x",
+            WordFault::Missing { key: Key::Size },
+        ),
+        (
+            "create-namespace uuid=x sector-size=x mode=x name=/ size=x region=x",
+            WordFault::Value { key: Key::Region },
+        ),
+        (
+            "create-namespace uuid=x sector-size=x mode=x name=/ size=x region=1",
+            WordFault::Value { key: Key::Size },
+        ),
+        (
+            "create-namespace uuid=x sector-size=x mode=x name=/ size=1 region=1",
+            WordFault::Value { key: Key::Name },
+        ),
+        (
+            "create-namespace uuid=x sector-size=x mode=x size=1 region=1",
+            WordFault::Value { key: Key::Mode },
+        ),
+        (
+            "create-namespace uuid=x sector-size=x size=1 region=1",
+            WordFault::Value {
+                key: Key::SectorSize,
+            },
+        ),
+        (
+            "create-namespace uuid=x size=1 region=1",
+            WordFault::Value { key: Key::Uuid },
+        ),
     ];
     for (line, fault) in lines {
         assert_eq!(rt; read_line(line.as_bytes()), Err(fault), "at {line}");
