@@ -103,6 +103,13 @@ impl Sets {
             (λ labels. (state (platform_in self.old) labels ≡ state_in self.old)
             ⊎ (state (platform_in self.old) labels
             ≡ initialised_state (platform_in self.old) dimm (slots_at self.old dimm) (state_in self.old)))) }
+
+        // The bytes of its area.
+        ensures area { IsTold R.Shown rig.old → OnOk result (R.areas rig.new ≡ initialised dimm (R.areas rig.old)) }
+        ensures area_left { IsTold R.Shown rig.old
+            → LeavesOnly R.Shown rig.old rig.new (LeftByInit (R.areas rig.old) (R.said rig.old) dimm) }
+        ensures unwritten { IsTold R.Shown rig.old → area_kind (get (R.areas rig.old) dimm) ≢ kind.Uninit
+            → R.areas rig.new ≡ R.areas rig.old }
         ensures writes_only { WritesTo dimm R.Shown rig.old rig.new }
         ensures reads_only { IfErr result (UnlessFailed (Reads R.Shown rig.old rig.new)) }
         ensures cause { FailsAt dimm R.Shown rig.old rig.new (is_init_failed result) }
@@ -234,6 +241,12 @@ fn init_at<R: Rig>(
         → LeavesOnly R.Shown rig.old rig.new (LeftIn (map dimm_of modules.old) (R.said rig.old)
         (IsOneOf (labels_in modules.old)
         (with_module vacant.dimm (vacant_module vacant.geometry.slots) (labels_in modules.old)))) }
+    ensures area { IsTold R.Shown rig.old
+        → OnOk result (R.areas rig.new ≡ initialised vacant.dimm (R.areas rig.old)) }
+    ensures area_left { IsTold R.Shown rig.old
+        → LeavesOnly R.Shown rig.old rig.new (LeftByInit (R.areas rig.old) (R.said rig.old) vacant.dimm) }
+    ensures unwritten { IsTold R.Shown rig.old → area_kind (get (R.areas rig.old) vacant.dimm) ≢ kind.Uninit
+        → R.areas rig.new ≡ R.areas rig.old }
     ensures writes_only { WritesTo vacant.dimm R.Shown rig.old rig.new }
     ensures reads_only { IfErr result (UnlessFailed (Reads R.Shown rig.old rig.new)) }
     ensures cause { FailsAt vacant.dimm R.Shown rig.old rig.new (is_init_failed result) }
@@ -277,6 +290,8 @@ fn init_over<R: Rig>(
     ensures written { IsTold R.Shown rig.old → OnOk result (R.areas rig.new ≡ initialised dimm (R.areas rig.old)) }
     ensures any_moment { IsTold R.Shown rig.old
         → LeavesOnly R.Shown rig.old rig.new (LeftByInit (R.areas rig.old) (R.said rig.old) dimm) }
+    ensures unwritten { IsTold R.Shown rig.old → area_kind (get (R.areas rig.old) dimm) ≢ kind.Uninit
+        → R.areas rig.new ≡ R.areas rig.old }
     ensures writes_only { WritesTo dimm R.Shown rig.old rig.new }
     ensures reads_only { IfErr result (UnlessFailed (Reads R.Shown rig.old rig.new)) }
     ensures cause { FailsAt dimm R.Shown rig.old rig.new (is_init_failed result) }

@@ -1,5 +1,6 @@
-use Rattle.std.proofs.Common.{◌≡◌, ◌⊎◌, inl, inr, ◌<◌, ◌+◌, Bool, true, false, List, length, get_or, map, Option, Some, refl, sym, ap, subst, ◌∙◌}
+use Rattle.std.proofs.Common.{◌≡◌, ◌≢◌, ◌⊎◌, inl, inr, ◌<◌, ◌+◌, Bool, true, false, List, length, get_or, map, Option, Some, refl, sym, ap, subst, ◌∙◌}
 use Rattle.std.specs.Prelude.{vec_capacity}
+use Rattle.std.specs.FinMap.{get}
 use Rattle.std.specs.List.{All}
 use Rattle.std.specs.Vec.{with_items}
 use Rattle.std.proofs.lemmas.Bool.{false≢true}
@@ -7,7 +8,9 @@ use Rattle.std.proofs.lemmas.List.{with_items_is}
 use Rattle.rig_trait.specs.Areas.{Areas}
 use Rattle.rig_trait.specs.Frames.{LeavesOnly, Reads}
 use Rattle.view_types.specs.declared.states.AreaState.{AreaState}
+use Rattle.module_labels.specs.declared.kind.AreaKind.TheVariants as kind
 use Rattle.module_labels.specs.Labels.{IsBounded, Labels}
+use Rattle.label_area.specs.Modules.{area_kind}
 use Rattle.label_area.specs.VacantAreas.{IsVacantArea, IsVacantOf}
 use Rattle.label_table.specs.Belonging.{IsDisjoint}
 use Rattle.label_table.specs.Settling.{IsInitialised}
@@ -250,6 +253,12 @@ returns-in-Ok-init_at-clause-any_moment g c = λ told all.
     (ap (λ (L : Labels). state (platform_in sets) (with_module c.args.dimm (vacant_module (slots_at sets c.args.dimm)) L)) (ap modules.labels_in was_is)
     ∙ settles c.args.dimm (slots_at sets c.args.dimm) (labels_in sets) (with_module c.args.dimm (vacant_module (slots_at sets c.args.dimm)) (labels_in sets)) init (platform_in sets) disjoint bounded) turn
 
+pub returns-in-Ok-init_at-clause-unwritten : goal.returns-in-Ok-init_at-clause-unwritten
+returns-in-Ok-init_at-clause-unwritten g c = λ told other.
+    let vacant_is : IsVacantArea c.args.dimm c.in-Some.size c.in-Some-found.vacant = subst (IsVacantOf c.args.dimm c.in-Some.size) c.in-Some-found.is c.in-Ok.ensures.vacant in
+    let areas : Areas = g.R.Shown.areas c.args.rig.now in
+    c.init_at.ensures.unwritten told (subst (λ h. area_kind (get areas h) ≢ kind.Uninit) (sym vacant_is.dimm_is) other)
+
 pub returns-in-Err-init_at-clause-refused : goal.returns-in-Err-init_at-clause-refused
 returns-in-Err-init_at-clause-refused g c = λ told all.
     let sets = c.args.self.now in
@@ -302,3 +311,9 @@ returns-in-Err-init_at-clause-any_moment g c = λ told all.
     init-state-left sets m old later c.args.dimm (slots_at sets c.args.dimm) (map dimm_of c.deref_mut.result.now) (modules.labels_in c.deref_mut.result.now) (ap (map dimm_of) was_is) (ap modules.labels_in was_is)
     (ap (λ (L : Labels). state (platform_in sets) (with_module c.args.dimm (vacant_module (slots_at sets c.args.dimm)) L)) (ap modules.labels_in was_is)
     ∙ settles c.args.dimm (slots_at sets c.args.dimm) (labels_in sets) (with_module c.args.dimm (vacant_module (slots_at sets c.args.dimm)) (labels_in sets)) init (platform_in sets) disjoint bounded) turn
+
+pub returns-in-Err-init_at-clause-unwritten : goal.returns-in-Err-init_at-clause-unwritten
+returns-in-Err-init_at-clause-unwritten g c = λ told other.
+    let vacant_is : IsVacantArea c.args.dimm c.in-Some.size c.in-Some-found.vacant = subst (IsVacantOf c.args.dimm c.in-Some.size) c.in-Some-found.is c.in-Ok.ensures.vacant in
+    let areas : Areas = g.R.Shown.areas c.args.rig.now in
+    c.init_at.ensures.unwritten told (subst (λ h. area_kind (get areas h) ≢ kind.Uninit) (sym vacant_is.dimm_is) other)
