@@ -17,4 +17,3 @@ pub mod FreeAfter
 pub mod Stageable
 pub mod Written
 pub mod EntryCounts
-pub mod SparedSlots

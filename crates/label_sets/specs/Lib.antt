@@ -10,4 +10,3 @@ pub mod Largest
 pub mod Lookups
 pub mod Staging
 pub mod Healing
-pub mod Spared

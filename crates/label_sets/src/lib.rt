@@ -10,7 +10,6 @@ mod lookups;
 mod read;
 mod room;
 mod sets;
-mod spared;
 mod staging;
 mod sweep;
 mod views;

@@ -28,6 +28,7 @@ use region_sets::{LoadedModule, ModuleArea, RegionLabels, is_dead};
 use rig_trait::Rig;
 
 impl Sets {
+    ghost use Rattle.module_labels.specs.Labels.{IsBounded};
     ghost use Rattle.region_sets.specs.Modules.{size_in};
     ghost use Rattle.label_sets.specs.Sets as sets;
     ghost use Rattle.label_sets.specs.Sets.{platform_in, state_in};
@@ -73,9 +74,11 @@ impl Sets {
         Ok(())
     }
 
-    /// A module with as many free slots as spare ones is swept. The function does nothing: its clause says what holds.
+    /// A module with as many free slots as spare ones is swept, and no module has a label past its slots. The function
+    /// does nothing: its clauses say what holds.
     pub fn sweep_law(&self)
-        ensures { (dimm : ℕ) → IsFreeAsSpare self.now dimm → IsSweptAt self.now dimm }
+        ensures swept { (dimm : ℕ) → IsFreeAsSpare self.now dimm → IsSweptAt self.now dimm }
+        ensures bounded { IsBounded (sets.labels_in self.now) }
     {
         let _modules = &self.modules;
     }

@@ -27,11 +27,11 @@ use Rattle.region_sets.specs.Modules.{is_of, module_in, module_or_missing}
 use Rattle.module_flips.specs.Together.{free_slots}
 use Rattle.namespace_staging.specs.Staged.{new_space}
 use Rattle.label_sets.specs.Sets.{StoredSets, labels_in, platform_in, state_in}
-use Rattle.label_sets.specs.Spared.{LacksDead}
+use Rattle.label_sets.specs.Sweeps.{IsFreeAsSpare, IsSwept, IsSweptAt}
 use Rattle.label_table.proofs.SoundPlatforms.{sound-disjoint}
 use Rattle.label_sets.proofs.Platforms.{known-members}
 use Rattle.label_sets.proofs.Stageable.{region-listed}
-use Rattle.recovery.specs.Recovery.{HasSpareFree, IsRecovered}
+use Rattle.recovery.specs.Recovery.{IsRecovered}
 use Rattle.table_steps.specs.declared.change.NewNamespace.{NewNamespace}
 use Rattle.table_steps.specs.Changes.{least_spare}
 use Rattle.table_steps.specs.Create.{Creates, IsCreated, created, keeps_uuid, made, part_length, uuid_in_use, with_made}
@@ -82,7 +82,7 @@ module _ (P : Platform) (sound : IsSound P) (sets mid : StoredSets) (in_P : IsSt
   unused : uuid_in_use P M a.uuid ≡ None
   unused = let keeps : (m : ℕ) → keeps_uuid P M a.uuid m ≡ keeps_uuid P L a.uuid m = keeps-same P disjoint L M tables a.uuid in (λ i. option_map UuidInUse (find (λ m. keeps m i) P.modules)) ∙ here.is.uuid
 
-  module _ (bounded : IsBounded M) (lacks : LacksDead mid) where
+  module _ (bounded : IsBounded M) (law : (dimm : ℕ) → IsFreeAsSpare mid dimm → IsSweptAt mid dimm) where
     no-dead : (h : ℕ) → is_member r h ≡ true → (slot : ℕ) (l : Label) → (M h).at slot ≡ Some l → is_dead P M h l ≡ false
     no-dead h member slot l is = by (find (is_of h) mid.modules) refl
       where
@@ -92,8 +92,11 @@ module _ (P : Platform) (sound : IsSound P) (sets mid : StoredSets) (in_P : IsSt
             let found = find-some (is_of h) mid.modules x e in
             let own : x.dimm ≡ h = eq_true x.dimm h found.1 in
             let at : (module_in x).at slot ≡ Some l = sym (ap (λ (y : Option LoadedModule). (module_or_missing y).at slot) e) ∙ is in
-            let free : HasSpareFree mid r x = subst (HasSpareFree mid r) found.0.2 (recovered.free found.0.0 x found.0.1) in
-            let none : is_dead (platform_in mid) M x.dimm l ≡ false = lacks x found.0 (free (ap (is_member r) own ∙ member)) slot l at in
+            let free : IsFreeAsSpare mid x.dimm = λ place d lt named.
+            subst (λ k. free_slots (get_or mid.modules place d) ≡ (state_in mid).table.spare k) named
+            (recovered.free place d lt (ap (is_member r) (named ∙ own) ∙ member)) in
+            let swept : IsSwept (platform_in mid) M x = subst (IsSwept (platform_in mid) M) found.0.2 (law x.dimm free found.0.0 x found.0.1 (ap (λ (y : LoadedModule). y.dimm) found.0.2)) in
+            let none : is_dead (platform_in mid) M x.dimm l ≡ false = swept.no_dead slot l at in
             sym (ap (λ (rs : List Region). is_dead (with_regions rs) M h l) mid-regions) ∙ sym (ap (λ d. is_dead (platform_in mid) M d l) own) ∙ none
 
     member-of : (k : ℕ) (d : Member) → k < length r.members → is_member r (get_or r.members k d).handle ≡ true

@@ -11,12 +11,11 @@ ghost use Rattle.module_flips.specs.Stops.{HasAreaCause, LeftIn, WritesAmong};
 ghost use Rattle.module_flips.specs.Stored.{StandsIn};
 ghost use Rattle.namespace_staging.specs.Staged.{new_space};
 ghost use Rattle.label_sets.specs.Sets.{labels_in, platform_in, state_in};
-ghost use Rattle.label_sets.specs.Staging.{OfRegion};
 ghost use Rattle.recovery.specs.Recovery.{IsRecovered};
 ghost use Rattle.table_steps.specs.Changes.{least_spare};
 ghost use Rattle.table_steps.specs.Create.{Creates, IsCreated};
 ghost use Rattle.namespace_core.specs.Create.{CanPutIn, HasChangeCause, IsBeforeOrAfter, IsCreateRefusal, IsNewSpace};
-ghost use Rattle.namespace_core.specs.Create.{IsPutIn, IsStepOf, IsTableOf, IsTableOrWith, WhereMemory, WhereRefused};
+ghost use Rattle.namespace_core.specs.Create.{IsPutIn, IsStepOf, IsTableOf, IsTableOrWith, WhereMemory, WhereRefused, modules_of};
 ghost use Rattle.namespace_core.specs.Lists.{IsStateOf};
 
 use crate::create_refusals::create_refusal;
@@ -63,9 +62,8 @@ pub fn create<R: Rig>(
     ensures any_moment { IsTold R.Shown rig.old → All (StandsIn (R.areas rig.old)) sets.old.modules
         → LeavesOnly R.Shown rig.old rig.new (LeftIn (map dimm_of sets.old.modules) (R.said rig.old)
         (IsBeforeOrAfter platform.now (labels_in sets.old) asked.now)) }
-    ensures writes_among { OfRegion sets.old asked.now.region (λ found.
-        WritesAmong (handles found) R.Shown rig.old rig.new) }
-    ensures cause { HasChangeCause R.Shown rig.old rig.new result }
+    ensures writes_among { WritesAmong (modules_of platform.now asked.now.region) R.Shown rig.old rig.new }
+    ensures cause { HasChangeCause (modules_of platform.now asked.now.region) R.Shown rig.old rig.new result }
     ensures reads { R.reads rig.new ≡ R.reads rig.old }
 {
     if let Some(refusal) = create_refusal(platform, sets, asked) {
@@ -102,7 +100,7 @@ fn make<R: Rig>(
         (IsBeforeOrAfter platform.now (labels_in sets.old) asked.now) sets.old rig.old sets.new rig.new }
     ensures stands { IsTold R.Shown rig.old → All (StandsIn (R.areas rig.old)) sets.old.modules
         → OnOk result (All (StandsIn (R.areas rig.new)) sets.new.modules) }
-    ensures cause { HasChangeCause R.Shown rig.old rig.new result }
+    ensures cause { HasChangeCause (handles region.now) R.Shown rig.old rig.new result }
 {
     let space = new_namespace(platform, sets, region, asked);
     match recover_region(rig, platform, sets, region, asked) {
@@ -110,7 +108,7 @@ fn make<R: Rig>(
         Err(failed) => return Err(ChangeFault::Area { dimm: failed.dimm }),
     }
     // As free as they are spare, the modules have no dead label with the uuid.
-    sets.spare_laws();
+    sets.sweep_law();
     match put_namespace(rig, platform, sets, region, &space) {
         Ok(()) => Ok(created(sets, region, asked, &space)),
         Err(failed) => Err(ChangeFault::Area { dimm: failed.dimm }),

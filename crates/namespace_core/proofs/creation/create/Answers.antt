@@ -1,6 +1,6 @@
-use Rattle.std.proofs.Common.{◌≡◌, inl, ℕ, List, map, Option, Some, None, Result, refl, sym, ap, subst, ◌∙◌}
+use Rattle.std.proofs.Common.{◌≡◌, inl, ℕ, List, [], map, Option, Some, None, Result, refl, sym, ap, subst, ◌∙◌}
 use Rattle.std.specs.List.{All}
-use Rattle.std.specs.Option.{option_copied}
+use Rattle.std.specs.Option.{option_copied, option_map_or}
 use Rattle.std.specs.Result.{IfErr, IfOk, OnOk}
 use Rattle.view_types.specs.declared.reply.Reply.{Reply}
 use Rattle.rig_trait.specs.Frames.{LeavesOnly}
@@ -19,11 +19,9 @@ use Rattle.module_flips.proofs.Turned.{no_flip}
 use Rattle.namespace_staging.proofs.Records.{no_write}
 use Rattle.label_sets.specs.Sets.{StoredSets, labels_in, platform_in, state_in}
 use Rattle.table_steps.specs.Create.{Creates, IsCreated}
-use Rattle.namespace_core.specs.Create.{IsBeforeOrAfter, IsCreateRefusal, IsStepOf, WhereRefused}
+use Rattle.namespace_core.specs.Create.{HasChangeCause, IsBeforeOrAfter, IsCreateRefusal, IsStepOf, WhereRefused, modules_of}
 use Rattle.namespace_core.specs.Lists.{IsStateOf}
-use Rattle.namespace_core.proofs.AcceptedCreates.{of-found}
 use Rattle.namespace_core.proofs.CreateEnds.{creates-accepted, creates-refused, not-memory, region-there, unrefused-reply}
-use Rattle.namespace_core.proofs.Refused.{found-in}
 use Rattle.namespace_core.proofs.RecoveredSpaces.{state-there}
 use Rattle.namespace_core.proofs.creation.create.Goals as goal
 
@@ -43,7 +41,7 @@ returns-in-Some-clause-any_moment g c = λ told all.
     no_flip {m = g.R.Shown} {old = c.args.rig.now} (map dimm_of sets.modules) (IsBeforeOrAfter P (labels_in sets) c.args.asked.now) (labels_in sets) (stands sets.modules (g.R.Shown.areas c.args.rig.now) all) (inl refl)
 
 pub returns-in-Some-clause-writes_among : goal.returns-in-Some-clause-writes_among
-returns-in-Some-clause-writes_among g c = λ q found. no_write {m = g.R.Shown} (handles q) c.args.rig.now
+returns-in-Some-clause-writes_among g c = no_write {m = g.R.Shown} (modules_of c.args.platform.now c.args.asked.now.region) c.args.rig.now
 
 -- The region is there.
 pub unreachable-requires : goal.unreachable-requires
@@ -116,11 +114,11 @@ returns-in-Ok-clause-any_moment g c = λ told all.
 
 pub returns-in-Ok-clause-writes_among : goal.returns-in-Ok-clause-writes_among
 returns-in-Ok-clause-writes_among g c =
-    let P = c.args.platform.now in
-    let a = c.args.asked.now in
-    let r = c.in-Some-region.region.now in
-    let known : region_at P a.region ≡ Some r = sym c.region.ensures ∙ ap option_copied c.in-Some-region.is in
-    of-found c.args.sets.now a.region r (λ (q : Region). WritesAmong (handles q) g.R.Shown c.args.rig.now c.make.new.rig) (found-in P c.args.sets.now c.requires.state a (Some r) known) c.make.ensures.step.writes
+    subst (λ (found : Option Region). WritesAmong (option_map_or handles found []) g.R.Shown c.args.rig.now c.make.new.rig) (ap option_copied (sym c.in-Some-region.is) ∙ c.region.ensures) c.make.ensures.step.writes
+
+pub returns-in-Ok-clause-cause : goal.returns-in-Ok-clause-cause
+returns-in-Ok-clause-cause g c =
+    subst (λ (found : Option Region). HasChangeCause (option_map_or handles found []) g.R.Shown c.args.rig.now c.make.new.rig c.make.result) (ap option_copied (sym c.in-Some-region.is) ∙ c.region.ensures) c.make.ensures.cause
 
 -- No memory was given.
 pub returns-in-Err-clause-any_moment : goal.returns-in-Err-clause-any_moment
@@ -130,4 +128,4 @@ returns-in-Err-clause-any_moment g c = λ told all.
     no_flip {m = g.R.Shown} {old = c.args.rig.now} (map dimm_of sets.modules) (IsBeforeOrAfter P (labels_in sets) c.args.asked.now) (labels_in sets) (stands sets.modules (g.R.Shown.areas c.args.rig.now) all) (inl refl)
 
 pub returns-in-Err-clause-writes_among : goal.returns-in-Err-clause-writes_among
-returns-in-Err-clause-writes_among g c = λ q found. no_write {m = g.R.Shown} (handles q) c.args.rig.now
+returns-in-Err-clause-writes_among g c = no_write {m = g.R.Shown} (modules_of c.args.platform.now c.args.asked.now.region) c.args.rig.now

@@ -22,7 +22,7 @@ put_namespace-requires-clause-known g c = own-index c.args.platform.now c.args.a
 pub put_namespace-requires-clause-put : goal.put_namespace-requires-clause-put
 put_namespace-requires-clause-put g c =
     can-put c.args.platform.now c.requires.sound c.args.sets.now c.recover_region.new.sets c.requires.state c.args.asked.now c.args.region.now c.requires.known c.requires.unrefused
-    c.recover_region.ensures.step.regions c.in-Ok.ensures.recovered c.spare_laws.ensures.bounded c.spare_laws.ensures.no_dead c.new_namespace-space.result c.new_namespace-space.ensures
+    c.recover_region.ensures.step.regions c.in-Ok.ensures.recovered c.sweep_law.ensures.bounded c.sweep_law.ensures.swept c.new_namespace-space.result c.new_namespace-space.ensures
 
 pub put_namespace-requires-clause-room : goal.put_namespace-requires-clause-room
 put_namespace-requires-clause-room g c = c.recover_region.ensures.room ∙ c.requires.room
@@ -42,7 +42,7 @@ returns-in-Err-clause-step g c =
     weaker-step (handles r) (IsTableOf sets) (IsBeforeOrAfter P (labels_in sets) a) sets c.recover_region.new.sets (before-fits P sets c.requires.state.regions a) c.recover_region.ensures.step
 
 pub returns-in-Err-clause-cause : goal.returns-in-Err-clause-cause
-returns-in-Err-clause-cause g c = c.in-Err.ensures.cause.fails
+returns-in-Err-clause-cause g c = (c.in-Err.ensures.cause.fails, c.in-Err.ensures.cause.known)
 
 pub returns-in-Ok-put_namespace-clause-made : goal.returns-in-Ok-put_namespace-clause-made
 returns-in-Ok-put_namespace-clause-made g c =
@@ -95,4 +95,5 @@ returns-in-Err-put_namespace-clause-step g c =
     (put-fits P c.requires.sound sets mid c.requires.state a r c.requires.known c.requires.unrefused c.recover_region.ensures.step.regions c.in-Ok.ensures.recovered s c.new_namespace-space.ensures) c.put_namespace.ensures.step)
 
 pub returns-in-Err-put_namespace-clause-cause : goal.returns-in-Err-put_namespace-clause-cause
-returns-in-Err-put_namespace-clause-cause g c = fails-behind c.in-Err-put_namespace.failed.dimm c.in-Ok.ensures.cause c.in-Err-put_namespace.ensures.cause.fails
+returns-in-Err-put_namespace-clause-cause g c =
+    (fails-behind c.in-Err-put_namespace.failed.dimm c.in-Ok.ensures.cause c.in-Err-put_namespace.ensures.cause.fails, c.in-Err-put_namespace.ensures.cause.known)

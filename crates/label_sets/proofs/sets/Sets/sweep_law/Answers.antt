@@ -1,5 +1,12 @@
+use Rattle.std.proofs.Common.{subst}
+use Rattle.module_labels.specs.Labels.{IsBounded}
+use Rattle.label_sets.specs.Sets.{StoredSets, labels_in}
+use Rattle.label_sets.proofs.Sweeping.{all-bounded}
 use Rattle.label_sets.proofs.TightSlots.{swept-where-free}
 use Rattle.label_sets.proofs.sets.Sets.sweep_law.Goals as goal
 
-pub returns : goal.returns
-returns c = swept-where-free c.self.inside c.self.invariant c.args.self.now c.self.view_is
+pub returns-clause-swept : goal.returns-clause-swept
+returns-clause-swept c = swept-where-free c.self.inside c.self.invariant c.args.self.now c.self.view_is
+
+pub returns-clause-bounded : goal.returns-clause-bounded
+returns-clause-bounded c = subst (λ (s : StoredSets). IsBounded (labels_in s)) c.self.view_is (all-bounded c.self.inside.modules.items c.self.invariant.in_use)
