@@ -1,5 +1,6 @@
 -- What a create asks of the state, what it gives, and what a stop leaves of it.
-use Rattle.std.specs.Prelude.{◌≡◌, ◌⊎◌, ℕ, ◌<◌, false, true, List, Option, None, Some, Result, Ok, Err, map}
+use Rattle.std.specs.Prelude.{◌≡◌, ◌⊎◌, ℕ, ◌<◌, false, true, List, [], Option, None, Some, Result, Ok, Err, map}
+use Rattle.std.specs.Option.{option_map_or}
 use Rattle.std.specs.List.{All}
 use Rattle.view_types.specs.declared.extents.Extent.{Extent}
 use Rattle.view_types.specs.declared.namespaces.Namespace.{Namespace}
@@ -9,6 +10,7 @@ use Rattle.view_types.specs.declared.reply.Reply.TheVariants as replies
 use Rattle.view_types.specs.Intervals.{IsFirstFit}
 use Rattle.rig_trait.specs.declared.shown.Shown.{Ghosts}
 use Rattle.rig_trait.specs.Frames.{FailsAt, IsTold, LeavesOnly}
+use Rattle.label_area.specs.Flips.{is_among}
 use Rattle.module_labels.specs.Labels.{Labels}
 use Rattle.region_map.specs.declared.platform.Member.{Member}
 use Rattle.region_map.specs.declared.platform.Platform.{Platform}
@@ -23,6 +25,7 @@ use Rattle.region_lookups.specs.declared.named.Named.{Named}
 use Rattle.region_lookups.specs.declared.named.Named.TheVariants as named
 use Rattle.region_sets.specs.declared.modules.LoadedModule.{LoadedModule}
 use Rattle.region_sets.specs.Modules.{dimm_of, size_in}
+use Rattle.region_sets.specs.Regions.{handles}
 use Rattle.module_flips.specs.Stops.{LeftIn, WritesAmong}
 use Rattle.module_flips.specs.Stored.{StandsIn}
 use Rattle.module_flips.specs.Together.{free_slots}
@@ -86,14 +89,18 @@ abbrev pub WhereMemory : Type 0 → ChangeFault → Type 0
 WhereMemory fact (faults.Area dimm) = Unit {0}
 WhereMemory fact faults.Memory = fact
 
-abbrev pub HasCauseOf : {R : Type 0} → Ghosts R → R → R → ChangeFault → Type 0
-HasCauseOf m old new (faults.Area dimm) = FailsAt dimm m old new true
-HasCauseOf m old new faults.Memory = FailsAt 0 m old new false
+-- the modules of the region with an index
+abbrev pub modules_of : Platform → ℕ → List ℕ
+modules_of platform index = option_map_or handles (region_at platform index) []
 
--- No call of the rig failed, or the last one did, and `Area` names its module.
-abbrev pub HasChangeCause : {R T : Type 0} → Ghosts R → R → R → Result T ChangeFault → Type 0
-HasChangeCause m old new (Ok value) = FailsAt 0 m old new false
-HasChangeCause m old new (Err fault) = HasCauseOf m old new fault
+abbrev pub HasCauseOf : {R : Type 0} → List ℕ → Ghosts R → R → R → ChangeFault → Type 0
+HasCauseOf modules m old new (faults.Area dimm) = FailsAt dimm m old new true × (is_among modules dimm ≡ true)
+HasCauseOf modules m old new faults.Memory = FailsAt 0 m old new false
+
+-- No call of the rig failed, or the last one did, and `Area` names its module, one of these.
+abbrev pub HasChangeCause : {R T : Type 0} → List ℕ → Ghosts R → R → R → Result T ChangeFault → Type 0
+HasChangeCause modules m old new (Ok value) = FailsAt 0 m old new false
+HasChangeCause modules m old new (Err fault) = HasCauseOf modules m old new fault
 
 -- A namespace can be put into a Ready region: no label of its modules has the uuid, each has two free slots, and the
 -- namespace's range is common free.
