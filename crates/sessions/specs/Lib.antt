@@ -1,0 +1,6 @@
+pub mod Commands
+pub mod Faults
+pub mod Done
+pub mod Sessions
+pub mod Codes
+pub mod Kept

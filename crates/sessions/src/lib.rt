@@ -1,0 +1,10 @@
+//! A session: the state that the label storage areas of a platform's modules stand for, read once, and the commands on
+//! it (UEFI 2.7, section 13.19).
+#![tactic(auto)]
+
+mod commands;
+mod faults;
+mod session;
+
+pub use faults::{OpenFault, RunFault};
+pub use session::Session;
