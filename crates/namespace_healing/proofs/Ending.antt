@@ -26,7 +26,7 @@ use Rattle.label_table.proofs.OnlyLabels.{only-first}
 use Rattle.namespace_healing.specs.Labels.{needs_healing}
 use Rattle.namespace_healing.specs.Namespaces.{IsAlikeAt, IsHealedTo, IsOpen, IsTurned}
 use Rattle.namespace_healing.proofs.Alike.{well}
-use Rattle.namespace_healing.proofs.Turning.{leading-first, member-named, only-of}
+use Rattle.namespace_healing.proofs.Leading.{leading-first, member-named, only-of}
 
 -- before the first turn
 pub healed-start : (P : Platform) (r : Region) (u : List ℕ) (lead : Label) (L : Labels) → IsOpen L r u → leading_label r (labels_with u L) ≡ Some lead → IsHealedTo P r u lead 1 L L

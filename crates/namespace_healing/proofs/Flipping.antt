@@ -1,24 +1,24 @@
 -- The label of one position is replaced by a flip of the module there.
-use Rattle.std.proofs.Common.{◌≡◌, inl, inr, ℕ, zero, suc, ◌<◌, ◌+◌, true, false, is_some, List, length, get_or, map, Some, None, Result, Ok, Err, refl, sym, ap, subst, ◌∙◌, arith}
+use Rattle.std.proofs.Common.{◌≡◌, inl, inr, ℕ, ◌<◌, ◌+◌, true, false, is_some, List, length, get_or, map, Some, None, Result, Ok, Err, refl, sym, ap, subst, ◌∙◌, arith}
 use Rattle.std.specs.Prelude.{◌==◌, IfErr, OnErr, OnOk}
-use Rattle.std.specs.List.{AllZip}
+use Rattle.std.specs.List.{All, AllZip}
 use Rattle.std.specs.Option.{option_map}
 use Rattle.std.specs.Result.{is_err}
 use Rattle.std.proofs.lemmas.Bool.{cases_eq}
 use Rattle.std.proofs.lemmas.List.{ext_get_or, get_or-map, length-map}
 use Rattle.std.proofs.lemmas.List.Folds.{list_any_at}
 use Rattle.rig_trait.specs.declared.shown.Shown.{Ghosts}
-use Rattle.rig_trait.specs.Frames.{FailsAt, LeavesOnly, WritesTo}
+use Rattle.rig_trait.specs.Frames.{FailsAt, IsTold, LeavesOnly, WritesTo}
 use Rattle.rig_trait.proofs.Moments.{weakened}
 use Rattle.label_codec.specs.declared.label.Label.{Label}
-use Rattle.module_labels.specs.Labels.{IsBounded, Labels, Module, number}
+use Rattle.module_labels.specs.Labels.{Labels, Module, number}
 use Rattle.label_area.specs.Flips.{Standing, at_slot, is_among}
 use Rattle.region_map.specs.declared.platform.Member.{Member}
 use Rattle.region_map.specs.declared.platform.Platform.{Platform}
 use Rattle.region_map.specs.declared.platform.Region.{Region}
 use Rattle.label_table.specs.Belonging.{member_at, no_member}
 use Rattle.label_table.specs.Tables.{is_member, table}
-use Rattle.label_table.specs.Wholes.{any_label}
+use Rattle.label_table.specs.Wholes.{any_label, labels_with, leading_label}
 use Rattle.label_table.proofs.ListTests.{Contains-get_or, eq_same, list_any-at}
 use Rattle.region_changes.specs.Changes.{IsChangedAt, dimm_at}
 use Rattle.region_changes.specs.Rooms.{KeepsRegion, room_after_put}
@@ -35,16 +35,15 @@ use Rattle.region_sets.proofs.Seated.{handle-at, length-handles}
 use Rattle.module_flips.specs.Flips.{HasFreeIn, IsPutAt, IsReplaced, first_slot_in, with_put_at}
 use Rattle.module_flips.specs.Stops.{HasAreaCause, IsOneOf, LeftIn, WritesAmong}
 use Rattle.module_flips.specs.declared.flips.AreaFailed.{AreaFailed}
+use Rattle.module_flips.specs.Stored.{StandsIn}
 use Rattle.module_flips.specs.Together.{StaysTogether, free_slots, free_slots_of}
 use Rattle.namespace_healing.specs.declared.places.LabelPlace.{LabelPlace}
-use Rattle.namespace_healing.specs.Healing.{CanTurn, StandsAt}
-use Rattle.namespace_healing.specs.Labels.{healed_label, needs_healing}
-use Rattle.namespace_healing.specs.Namespaces.{IsOpen, IsTurned}
-use Rattle.namespace_healing.specs.Passes.{HasTableOf, label_number}
+use Rattle.namespace_healing.specs.Healing.{CanHeal, StandsAt}
+use Rattle.namespace_healing.specs.Passes.{HasTableOf, IsPass, label_number}
 use Rattle.namespace_healing.proofs.Bounded.{all-bounded}
 use Rattle.namespace_healing.proofs.Counts.{put-number}
-use Rattle.namespace_healing.proofs.Passing.{IsStill}
-use Rattle.namespace_healing.proofs.Turning.{kept-turn, turn-behind, turn-first}
+use Rattle.namespace_healing.proofs.Passing.{IsStill, still-kept}
+use Rattle.namespace_healing.proofs.Replaced.{IsLedAt}
 
 -- what stands for a module that is not there
 abbrev pub no_module : LoadedModule
@@ -62,15 +61,19 @@ pub on_ok : {T E A B : Type 0} (r : Result T E) → (A → B) → OnOk r A → O
 on_ok (Ok t) f a = f a
 on_ok (Err e) f a = tt
 
-pub on_ok5 : {T E A B C D F G : Type 0} (r : Result T E) → (A → B → C → D → F → G) → OnOk r A → OnOk r B → OnOk r C → OnOk r D → OnOk r F → OnOk r G
-on_ok5 (Ok t) f a b c d e = f a b c d e
-on_ok5 (Err x) f a b c d e = tt
+on_ok4 : {T E A B C D F : Type 0} (r : Result T E) → (A → B → C → D → F) → OnOk r A → OnOk r B → OnOk r C → OnOk r D → OnOk r F
+on_ok4 (Ok t) f a b c d = f a b c d
+on_ok4 (Err x) f a b c d = tt
 
-pub on_err2 : {T E A B C : Type 0} (r : Result T E) → (A → B → C) → OnErr r A → OnErr r B → OnErr r C
+on_err : {T E A B : Type 0} (r : Result T E) → (A → B) → OnErr r A → OnErr r B
+on_err (Ok t) f a = tt
+on_err (Err e) f a = f a
+
+on_err2 : {T E A B C : Type 0} (r : Result T E) → (A → B → C) → OnErr r A → OnErr r B → OnErr r C
 on_err2 (Ok t) f a b = tt
 on_err2 (Err e) f a b = f a b
 
-pub on_ok_all : {T E A : Type 0} (r : Result T E) (B : A → Type 0) → ((a : A) → OnOk r (B a)) → OnOk r ((a : A) → B a)
+on_ok_all : {T E A : Type 0} (r : Result T E) (B : A → Type 0) → ((a : A) → OnOk r (B a)) → OnOk r ((a : A) → B a)
 on_ok_all (Ok t) B all = all
 on_ok_all (Err e) B all = tt
 
@@ -101,7 +104,7 @@ free-same ms now seat changed same = ext_get_or 0 (map free_slots now) (map free
     x : LoadedModule
     x = no_module
 
-module _ (ms : List LoadedModule) (rs : List RegionLabels) (region : Region) (u : List ℕ) (lead : Label) (position : ℕ) (lt : position < length region.members) (turn : CanTurn ms rs region u lead position)
+module _ (ms : List LoadedModule) (rs : List RegionLabels) (region : Region) (u : List ℕ) (position : ℕ) (lt : position < length region.members) (can : CanHeal ms rs region u)
     (place : LabelPlace) (at : StandsAt ms region u position place) where
   abbrev pub P : Platform
   P = platform_of rs
@@ -112,22 +115,26 @@ module _ (ms : List LoadedModule) (rs : List RegionLabels) (region : Region) (u 
   abbrev pub x : Member
   x = member_at region position
 
-  bounded : IsBounded L
-  bounded = all-bounded ms turn.can.together.in_use
+  pub led-at : (lead : Label) → leading_label region (labels_with u L) ≡ Some lead → IsLedAt P region u L lead position
+  led-at lead leads = record {
+    disjoint = can.together.disjoint;
+    region_in = can.region_in;
+    bounded = all-bounded ms can.together.in_use;
+    stands = record { whole = can.whole; writable = can.writable };
+    leads = leads;
+    within = lt;
+  }
 
-  is_open : IsOpen L region u
-  is_open = record { whole = turn.can.whole; writable = turn.can.writable }
-
-  pub dimm-is : (d : LoadedModule) → dimm_at ms place.seat ≡ x.handle
+  dimm-is : (d : LoadedModule) → dimm_at ms place.seat ≡ x.handle
   dimm-is d = dimm-at ms place.seat d at.within ∙ at.handle d
 
   here-is : (d : LoadedModule) → L x.handle ≡ module_in (get_or ms place.seat d)
-  here-is d = sym (ap L (dimm-is d)) ∙ labels-at ms place.seat d turn.can.together.once at.within
+  here-is d = sym (ap L (dimm-is d)) ∙ labels-at ms place.seat d can.together.once at.within
 
   pub free-there : (d : LoadedModule) → HasFreeIn (get_or ms place.seat d).area
   free-there d =
       let member : is_member region x.handle ≡ true = list_any-at (λ (y : Member). y.handle == x.handle) region.members x (Contains-get_or region.members position no_member lt) (eq_same x.handle x.handle refl) in
-      has-free (get_or ms place.seat d).area (turn.can.free place.seat d at.within (ap (is_member region) (at.handle d) ∙ member))
+      has-free (get_or ms place.seat d).area (can.free place.seat d at.within (ap (is_member region) (at.handle d) ∙ member))
 
   stored : (d : LoadedModule) → (module_in (get_or ms place.seat d)).at place.slot ≡ Some place.label
   stored d = sym (ap (λ (N : Module). N.at place.slot) (here-is d)) ∙ at.is
@@ -135,65 +142,10 @@ module _ (ms : List LoadedModule) (rs : List RegionLabels) (region : Region) (u 
   pub replaced-there : (d : LoadedModule) → IsReplaced (get_or ms place.seat d) (Some place.slot)
   replaced-there d = ap is_some (stored d)
 
-  pub known-there : is_among (handles region) (dimm_at ms place.seat) ≡ true
+  known-there : is_among (handles region) (dimm_at ms place.seat) ≡ true
   known-there =
       let below : position < length (handles region) = subst (λ n. position < n) (sym (length-handles region)) lt in
       list_any_at (λ h. dimm_at ms place.seat == h) (handles region) position 0 below (eq_same (dimm_at ms place.seat) (get_or (handles region) position 0) (dimm-is no_module ∙ sym (handle-at region position lt)))
-
-  -- the label needs no healing
-  pub well-turn : needs_healing lead place.label ≡ false → IsTurned P region u lead position L L
-  well-turn = kept-turn P turn.can.together.disjoint region turn.can.region_in turn.can.same_sizes u L bounded is_open lead turn.leads position lt place.label at.only
-
-  -- or is replaced
-  module _ (healed : Label) (healed_is : healed ≡ healed_label lead place.label)
-      (within : (d : LoadedModule) → first_slot_in (get_or ms place.seat d) < (module_in (get_or ms place.seat d)).slots)
-      (was_free : (d : LoadedModule) → (module_in (get_or ms place.seat d)).at (first_slot_in (get_or ms place.seat d)) ≡ None) where
-    abbrev pub after : LoadedModule → Labels
-    after d = with_put_at (dimm_at ms place.seat) (first_slot_in (get_or ms place.seat d)) healed (Some place.slot) L
-
-    pub flip-turn : (d : LoadedModule) → IsTurned P region u lead position L (after d)
-    flip-turn d =
-        let slot = first_slot_in (get_or ms place.seat d) in
-        let slot_within : slot < (L x.handle).slots = subst (λ (N : Module). slot < N.slots) (sym (here-is d)) (within d) in
-        let slot_free : (L x.handle).at slot ≡ None = ap (λ (N : Module). N.at slot) (here-is d) ∙ was_free d in
-        subst (λ h. IsTurned P region u lead position L (with_put_at h slot healed (Some place.slot) L)) (sym (dimm-is d))
-        (subst (λ (l : Label). IsTurned P region u lead position L (with_put_at x.handle slot l (Some place.slot) L)) (sym healed_is)
-        (elim (cases_eq position 0) [
-          | inl first ↦ turn-first P turn.can.together.disjoint region turn.can.region_in turn.can.same_sizes u L bounded is_open lead turn.leads position lt place.slot slot place.label at.slot_within at.is at.has_uuid at.only slot_within slot_free
-              first (turn.last first)
-          | inr behind ↦ turn-behind P turn.can.together.disjoint region turn.can.region_in turn.can.same_sizes u L bounded is_open lead turn.leads position lt place.slot slot place.label at.slot_within at.is at.has_uuid at.only slot_within slot_free
-              (above position behind)
-        ]))
-      where
-        above : (k : ℕ) → (k ≡ 0 → ⊥) → 0 < k
-        above zero differ = absurd (differ refl)
-        above (suc k) differ = omega arith
-
-    pub flip-still : (now : List LoadedModule) (regions_now : List RegionLabels) → IsPutAt ms now place.seat healed (Some place.slot) → labels_in now ≡ after no_module → StaysTogether ms rs now regions_now
-        → ((d : LoadedModule) → free_slots (get_or now place.seat d) + 1 ≡ free_slots (get_or ms place.seat d) + 1)
-        → AllZip (KeepsRegion (room_after_put (dimm_at ms place.seat) (replaced_label (module_in (get_or ms place.seat no_module)) (Some place.slot)))) rs regions_now
-        → IsStill ms rs now regions_now
-    flip-still now regions_now put labels together free rooms = record {
-      together = together;
-      same_free = free-same ms now place.seat put.changed free;
-      same_counts = counts-same ms now place.seat put.changed (λ d.
-          let here = module_in (get_or ms place.seat d) in
-          ap (λ (s : Standing). number any_label s.labels) (put.standing d)
-          ∙ put-number here (first_slot_in (get_or ms place.seat d)) place.slot (at_slot (first_slot_in (get_or ms place.seat d)) healed) place.label (within d) (subst (λ (N : Module). place.slot < N.slots) (here-is d) at.slot_within) (was_free d) (stored d));
-      rooms = subst (λ o. AllZip (KeepsRegion (room_after_put (dimm_at ms place.seat) o)) rs regions_now) (ap (option_map (λ (l : Label). record { uuid = l.uuid; slot = place.slot })) (stored no_module)) rooms;
-      same_table = ap (table P) labels ∙ (flip-turn no_module).same_table;
-    }
-
-    -- what a stop leaves has the table
-    pub flip-moment : {R : Type 0} (m : Ghosts R) (old new : R) (d : LoadedModule) → LeavesOnly m old new (LeftIn (map dimm_of ms) (m.said old) (IsOneOf L (after d)))
-        → LeavesOnly m old new (LeftIn (map dimm_of ms) (m.said old) (HasTableOf ms rs))
-    flip-moment m old new d left = weakened _ (LeftIn (map dimm_of ms) (m.said old) (HasTableOf ms rs)) (λ c is. record {
-      said_is = is.said_is;
-      labels = λ fair. elim (is.labels fair) [
-        | inl e ↦ ap (table P) e
-        | inr e ↦ ap (table P) e ∙ (flip-turn d).same_table
-      ];
-    }) left
 
   -- the module is one of the region's
   pub flip-writes : {R : Type 0} (m : Ghosts R) (old new : R) → WritesTo (dimm_at ms place.seat) m old new → WritesAmong (handles region) m old new
@@ -212,3 +164,62 @@ module _ (ms : List LoadedModule) (rs : List RegionLabels) (region : Region) (u 
     fails = subst (λ d. FailsAt d m old new true) (sym named) fails;
     known = ap (is_among (handles region)) named ∙ known-there;
   }
+
+  -- The label is replaced by another one.
+  module _ (label : Label) (within : (d : LoadedModule) → first_slot_in (get_or ms place.seat d) < (module_in (get_or ms place.seat d)).slots)
+      (was_free : (d : LoadedModule) → (module_in (get_or ms place.seat d)).at (first_slot_in (get_or ms place.seat d)) ≡ None) where
+    abbrev pub after : LoadedModule → Labels
+    after d = with_put_at (dimm_at ms place.seat) (first_slot_in (get_or ms place.seat d)) label (Some place.slot) L
+
+    -- what holds of the labels afterwards, whichever the free slot is
+    pub flip-makes : (fact : Labels → Type 0) → ((slot : ℕ) → slot < (L x.handle).slots → (L x.handle).at slot ≡ None → fact (with_put_at x.handle slot label (Some place.slot) L)) → (d : LoadedModule) → fact (after d)
+    flip-makes fact made d =
+        let slot = first_slot_in (get_or ms place.seat d) in
+        subst (λ h. fact (with_put_at h slot label (Some place.slot) L)) (sym (dimm-is d))
+        (made slot (subst (λ (N : Module). slot < N.slots) (sym (here-is d)) (within d)) (ap (λ (N : Module). N.at slot) (here-is d) ∙ was_free d))
+
+    pub flip-still : {T E : Type 0} (result : Result T E) (now : List LoadedModule) (regions_now : List RegionLabels) → OnOk result (IsPutAt ms now place.seat label (Some place.slot)) → OnOk result (StaysTogether ms rs now regions_now)
+        → ((d : LoadedModule) → OnOk result (free_slots (get_or now place.seat d) + 1 ≡ free_slots (get_or ms place.seat d) + 1))
+        → OnOk result (AllZip (KeepsRegion (room_after_put (dimm_at ms place.seat) (replaced_label (module_in (get_or ms place.seat no_module)) (Some place.slot)))) rs regions_now)
+        → OnErr result (now ≡ ms) → OnErr result (regions_now ≡ rs) → IsStill ms rs now regions_now
+    flip-still result now regions_now did together free rooms kept kept_regions =
+        either result (on_ok4 result made did together (on_ok_all result _ free) rooms) (on_err2 result (λ same same_regions. still-kept ms rs now regions_now can.together same same_regions) kept kept_regions)
+      where
+        made : IsPutAt ms now place.seat label (Some place.slot) → StaysTogether ms rs now regions_now → ((d : LoadedModule) → free_slots (get_or now place.seat d) + 1 ≡ free_slots (get_or ms place.seat d) + 1)
+            → AllZip (KeepsRegion (room_after_put (dimm_at ms place.seat) (replaced_label (module_in (get_or ms place.seat no_module)) (Some place.slot)))) rs regions_now → IsStill ms rs now regions_now
+        made put stays gave kept_rooms = record {
+          together = stays;
+          same_free = free-same ms now place.seat put.changed gave;
+          same_counts = counts-same ms now place.seat put.changed (λ d.
+              let here = module_in (get_or ms place.seat d) in
+              ap (λ (s : Standing). number any_label s.labels) (put.standing d)
+              ∙ put-number here (first_slot_in (get_or ms place.seat d)) place.slot (at_slot (first_slot_in (get_or ms place.seat d)) label) place.label (within d) (subst (λ (N : Module). place.slot < N.slots) (here-is d) at.slot_within) (was_free d) (stored d));
+          rooms = subst (λ o. AllZip (KeepsRegion (room_after_put (dimm_at ms place.seat) o)) rs regions_now) (ap (option_map (λ (l : Label). record { uuid = l.uuid; slot = place.slot })) (stored no_module)) kept_rooms;
+        }
+
+    -- what a stop leaves fits as the labels before and after do
+    pub flip-moment : {R : Type 0} (m : Ghosts R) (old new : R) (fits : Labels → Type 0) → fits L → fits (after no_module) → LeavesOnly m old new (LeftIn (map dimm_of ms) (m.said old) (IsOneOf L (after no_module)))
+        → LeavesOnly m old new (LeftIn (map dimm_of ms) (m.said old) fits)
+    flip-moment m old new fits before afterwards left = weakened _ (LeftIn (map dimm_of ms) (m.said old) fits) (λ c is. record {
+      said_is = is.said_is;
+      labels = λ fair. elim (is.labels fair) [
+        | inl e ↦ subst fits (sym e) before
+        | inr e ↦ subst fits (sym e) afterwards
+      ];
+    }) left
+
+    -- where the table is kept
+    pub flip-pass : {R T E : Type 0} (m : Ghosts R) (old new : R) (result : Result T E) (now : List LoadedModule) (regions_now : List RegionLabels) → table P (after no_module) ≡ table P L → IsStill ms rs now regions_now
+        → OnOk result (labels_in now ≡ after no_module) → OnErr result (now ≡ ms)
+        → (IsTold m old → All (StandsIn (m.areas old)) ms → LeavesOnly m old new (LeftIn (map dimm_of ms) (m.said old) (IsOneOf L (after no_module))))
+        → WritesTo (dimm_at ms place.seat) m old new → m.reads new ≡ m.reads old → IsPass (handles region) m ms rs old now regions_now new
+    flip-pass m old new result now regions_now same still labels kept left writes reads = record {
+      together = still.together;
+      same_free = still.same_free;
+      same_counts = still.same_counts;
+      rooms = still.rooms;
+      same_table = either result (on_ok result (λ are. ap (table P) are ∙ same) labels) (on_err result (λ are. ap (λ (xs : List LoadedModule). table P (labels_in xs)) are) kept);
+      any_moment = λ told all. flip-moment m old new (HasTableOf ms rs) refl same (left told all);
+      writes = flip-writes m old new writes;
+      reads = reads;
+    }

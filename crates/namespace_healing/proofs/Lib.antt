@@ -1,9 +1,12 @@
+pub mod Leading
 pub mod Alike
 pub mod Bounded
 pub mod Replacing
+pub mod Replaced
 pub mod Turning
 pub mod Ending
 pub mod Seats
 pub mod Passing
 pub mod Counts
 pub mod Flipping
+pub mod Healed

@@ -57,7 +57,6 @@ pub record IsStill (ms : List LoadedModule) (rs : List RegionLabels) (now : List
   pub same_free : map free_slots now ≡ map free_slots ms
   pub same_counts : map label_number now ≡ map label_number ms
   pub rooms : AllZip (KeepsRegion room_in) rs regions_now
-  pub same_table : HasTableOf ms rs (labels_in now)
 
 pub still-kept : (ms : List LoadedModule) (rs : List RegionLabels) (now : List LoadedModule) (regions_now : List RegionLabels) → IsTogether ms rs → now ≡ ms → regions_now ≡ rs → IsStill ms rs now regions_now
 still-kept ms rs now regions_now together kept kept_regions =
@@ -67,7 +66,6 @@ still-kept ms rs now regions_now together kept kept_regions =
       same_free = refl;
       same_counts = refl;
       rooms = rooms-still rs;
-      same_table = refl;
     }))
 
 module _ {R : Type 0} {m : Ghosts R} where

@@ -7,3 +7,4 @@ mod labels;
 mod places;
 
 pub use heal::heal_labels;
+pub use places::{LabelPlace, place_at};

@@ -17,15 +17,15 @@ use uuid_index::Found;
 
 /// A label, and where it stands.
 #[derive(Clone, Copy, Debug, PartialEq, Eq)]
-pub(crate) struct LabelPlace {
+pub struct LabelPlace {
     /// Where the module stands among the modules.
-    pub(crate) seat: usize,
-    pub(crate) slot: u32,
-    pub(crate) label: Label,
+    pub seat: usize,
+    pub slot: u32,
+    pub label: Label,
 }
 
 /// The label with the uuid of a namespace in the module at a position.
-pub(crate) fn place_at(
+pub fn place_at(
     modules: &[LoadedModule],
     regions: &[RegionLabels],
     region: &Region,

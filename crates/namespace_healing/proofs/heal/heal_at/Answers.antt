@@ -3,8 +3,9 @@ use Rattle.region_sets.specs.Fates.{platform_of}
 use Rattle.region_sets.specs.Modules.{labels_in}
 use Rattle.region_sets.specs.Regions.{handles}
 use Rattle.namespace_healing.specs.Namespaces.{IsTurned}
-use Rattle.namespace_healing.proofs.Flipping.{either, flip-cause, flip-moment, flip-still, flip-turn, flip-writes, free-there, no_module, on_err2, on_ok, on_ok5, on_ok_all, replaced-there}
-use Rattle.namespace_healing.proofs.Passing.{IsStill, no-pass, still-kept}
+use Rattle.namespace_healing.proofs.Flipping.{flip-cause, flip-pass, flip-still, free-there, no_module, on_ok, replaced-there}
+use Rattle.namespace_healing.proofs.Healed.{flip-turn}
+use Rattle.namespace_healing.proofs.Passing.{no-pass}
 use Rattle.namespace_healing.proofs.heal.heal_at.Goals as goal
 
 apart : true ≡ false → ⊥
@@ -15,11 +16,11 @@ returns-then-not-needs_healing-clause-pass g c = no-pass (handles c.args.region.
 
 pub put_at-requires-clause-free : goal.put_at-requires-clause-free
 put_at-requires-clause-free g c =
-    free-there c.args.modules.now c.args.regions.now c.args.region.now c.args.uuid.now c.args.leading.now c.args.position c.requires.within c.requires.turn c.place_at-own.result c.place_at-own.ensures
+    free-there c.args.modules.now c.args.regions.now c.args.region.now c.args.uuid.now c.args.position c.requires.within c.requires.turn.can c.place_at-own.result c.place_at-own.ensures
 
 pub put_at-requires-clause-replaces : goal.put_at-requires-clause-replaces
 put_at-requires-clause-replaces g c =
-    replaced-there c.args.modules.now c.args.regions.now c.args.region.now c.args.uuid.now c.args.leading.now c.args.position c.requires.within c.requires.turn c.place_at-own.result c.place_at-own.ensures
+    replaced-there c.args.modules.now c.args.regions.now c.args.region.now c.args.uuid.now c.args.position c.requires.within c.requires.turn.can c.place_at-own.result c.place_at-own.ensures
 
 pub returns-clause-turned : goal.returns-clause-turned
 returns-clause-turned g c =
@@ -32,30 +33,20 @@ pub returns-clause-pass : goal.returns-clause-pass
 returns-clause-pass g c =
     let ms = c.args.modules.now in
     let rs = c.args.regions.now in
+    let now = c.put_at.new.modules in
+    let can = c.requires.turn.can in
+    let label = c.healed_label-healed.result in
     let did = c.put_at.ensures in
-    let still : IsStill ms rs c.put_at.new.modules c.put_at.new.regions = either c.put_at.result
-    (on_ok5 c.put_at.result (λ put labels together free rooms.
-    flip-still ms rs c.args.region.now c.args.uuid.now c.args.leading.now c.args.position c.requires.within c.requires.turn c.place_at-own.result c.place_at-own.ensures
-    c.healed_label-healed.result c.healed_label-healed.ensures did.slot_within did.slot_free c.put_at.new.modules c.put_at.new.regions put labels together free rooms)
-    did.put (did.labels no_module) did.together (on_ok_all c.put_at.result _ did.free_slots) (did.regions no_module))
-    (on_err2 c.put_at.result (λ kept kept_regions. still-kept ms rs c.put_at.new.modules c.put_at.new.regions c.requires.turn.can.together kept kept_regions) did.kept did.kept_regions) in
-    record {
-      together = still.together;
-      same_free = still.same_free;
-      same_counts = still.same_counts;
-      rooms = still.rooms;
-      same_table = still.same_table;
-      any_moment = λ told all.
-          flip-moment ms rs c.args.region.now c.args.uuid.now c.args.leading.now c.args.position c.requires.within c.requires.turn c.place_at-own.result c.place_at-own.ensures
-          c.healed_label-healed.result c.healed_label-healed.ensures did.slot_within did.slot_free g.R.Shown c.args.rig.now c.put_at.new.rig no_module (did.any_moment no_module told all);
-      writes = flip-writes ms rs c.args.region.now c.args.uuid.now c.args.leading.now c.args.position c.requires.within c.requires.turn c.place_at-own.result c.place_at-own.ensures
-          g.R.Shown c.args.rig.now c.put_at.new.rig did.writes_only;
-      reads = did.reads;
-    }
+    let turned = flip-turn ms rs c.args.region.now c.args.uuid.now c.args.leading.now c.args.position c.requires.within c.requires.turn c.place_at-own.result c.place_at-own.ensures
+    label c.healed_label-healed.ensures did.slot_within did.slot_free no_module in
+    let still = flip-still ms rs c.args.region.now c.args.uuid.now c.args.position c.requires.within can c.place_at-own.result c.place_at-own.ensures label did.slot_within did.slot_free
+    c.put_at.result now c.put_at.new.regions did.put did.together did.free_slots (did.regions no_module) did.kept did.kept_regions in
+    flip-pass ms rs c.args.region.now c.args.uuid.now c.args.position c.requires.within can c.place_at-own.result c.place_at-own.ensures label did.slot_within did.slot_free
+    g.R.Shown c.args.rig.now c.put_at.new.rig c.put_at.result now c.put_at.new.regions turned.same_table still (did.labels no_module) did.kept (did.any_moment no_module) did.writes_only did.reads
 
 pub returns-clause-cause : goal.returns-clause-cause
 returns-clause-cause g c =
-    flip-cause c.args.modules.now c.args.regions.now c.args.region.now c.args.uuid.now c.args.leading.now c.args.position c.requires.within c.requires.turn c.place_at-own.result c.place_at-own.ensures
+    flip-cause c.args.modules.now c.args.regions.now c.args.region.now c.args.uuid.now c.args.position c.requires.within c.requires.turn.can c.place_at-own.result c.place_at-own.ensures
     g.R.Shown c.args.rig.now c.put_at.new.rig c.put_at.result c.put_at.ensures.cause c.put_at.ensures.names
 
 pub returns-clause-idle : goal.returns-clause-idle

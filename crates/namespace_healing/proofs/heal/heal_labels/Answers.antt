@@ -23,7 +23,7 @@ use Rattle.namespace_healing.proofs.Bounded.{all-bounded}
 use Rattle.namespace_healing.proofs.Ending.{all-alike, all-marks, all-table, some-members}
 use Rattle.namespace_healing.proofs.Flipping.{on_ok}
 use Rattle.namespace_healing.proofs.Passing.{can-turn, passed-on, sized-on}
-use Rattle.namespace_healing.proofs.Turning.{leading-first}
+use Rattle.namespace_healing.proofs.Leading.{leading-first}
 use Rattle.namespace_healing.proofs.heal.heal_labels.Goals as goal
 
 -- the label that was found at position 0 is the leading one
