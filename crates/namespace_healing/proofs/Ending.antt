@@ -1,32 +1,27 @@
 -- The labels of a namespace are healed one after the other, and then it is not pending.
-use Rattle.std.proofs.Common.{◌≡◌, ◌≢◌, ◌⊎◌, inl, inr, ℕ, zero, suc, ◌+◌, ◌<◌, ◌≤◌, true, false, not, ◌&&◌, cond, List, [], ◌∷◌, length, Option, Some, None, refl, sym, ap, subst, ◌∙◌, arith}
-use Rattle.std.specs.Prelude.{◌==◌, nat_lt}
+use Rattle.std.proofs.Common.{◌≡◌, ◌≢◌, inl, inr, ℕ, zero, suc, ◌+◌, ◌<◌, ◌≤◌, true, false, not, ◌&&◌, cond, List, [], ◌∷◌, length, Option, Some, None, refl, sym, ap, subst, ◌∙◌, arith}
+use Rattle.std.specs.Prelude.{nat_lt}
 use Rattle.std.specs.List.{Contains}
 use Rattle.std.specs.Option.{option_map_or}
 use Rattle.std.proofs.lemmas.Bool.{and_parts, and_right, cases_eq}
 use Rattle.label_codec.specs.declared.label.Label.{Label}
 use Rattle.label_codec.specs.Flags.{is_updating}
-use Rattle.module_labels.specs.Labels.{IsBounded, Labels, first, first_below, has, label_if, number, of_uuid}
-use Rattle.module_labels.proofs.Counting.{IsFirst, count-one, first_below-cases}
+use Rattle.module_labels.specs.Labels.{IsBounded, Labels, first, of_uuid}
 use Rattle.region_map.specs.declared.platform.Member.{Member}
 use Rattle.region_map.specs.declared.platform.Platform.{Platform}
 use Rattle.region_map.specs.declared.platform.Region.{Region}
 use Rattle.region_map.specs.Platforms.{region_at}
 use Rattle.label_table.specs.Belonging.{IsDisjoint, member_at}
 use Rattle.label_table.specs.Flips.{EachLabel}
-use Rattle.label_table.specs.Plain.{HasOnly, IsOnly}
 use Rattle.label_table.specs.Spaces.{is_pending}
 use Rattle.label_table.specs.Tables.{changed_at, pending_at, state, table}
-use Rattle.label_table.specs.Wholes.{all_ready, any_label, any_read_only, any_updating, is_whole, is_whole_after, labels_with, leading_among, leading_label}
-use Rattle.label_table.proofs.Confined.{whole-count}
+use Rattle.label_table.specs.Wholes.{all_ready, any_read_only, any_updating, is_whole, is_whole_after, labels_with, leading_among, leading_label}
 use Rattle.label_table.proofs.Equations.{changed_at-same}
-use Rattle.label_table.proofs.Leaving.{label_if-passes, within}
-use Rattle.label_table.proofs.ListTests.{list_any-never, none_some}
-use Rattle.label_table.proofs.OnlyLabels.{only-first}
+use Rattle.label_table.proofs.ListTests.{list_any-never}
 use Rattle.namespace_healing.specs.Labels.{needs_healing}
 use Rattle.namespace_healing.specs.Namespaces.{IsAlikeAt, IsHealedTo, IsOpen, IsTurned}
 use Rattle.namespace_healing.proofs.Alike.{well}
-use Rattle.namespace_healing.proofs.Leading.{leading-first, member-named, only-of}
+use Rattle.namespace_healing.proofs.Leading.{each-label, leading-first, member-named, the-only}
 
 -- before the first turn
 pub healed-start : (P : Platform) (r : Region) (u : List ℕ) (lead : Label) (L : Labels) → IsOpen L r u → leading_label r (labels_with u L) ≡ Some lead → IsHealedTo P r u lead 1 L L
@@ -89,44 +84,14 @@ module _ (P : Platform) (disjoint : IsDisjoint P) (r : Region) (r_in : Contains 
         to.alike (suc j) (omega arith) (omega (arith, j_lt, all)) j_lt l (sym (ap first (away 0 (suc j) some j_lt (λ e. absurd (omega (arith, e))) turn)) ∙ at)
 
     pub all-alike : EachLabel r u M (λ member label. needs_healing lead label ≡ false)
-    all-alike y slot l in_r at h =
-        let named = member-named r y in_r in
-        let fine : IsAlikeAt M r u lead in_r.0 = alike-at in_r.0 in_r.1 in
-        fine l (ap (λ (m : Member). first (of_uuid u (M m.handle))) named ∙ first-named)
-      where
-        here : label_if (has u) ((M y.handle).at slot) ≡ Some l
-        here = label_if-passes (has u) ((M y.handle).at slot) l at h
-
-        first-named : first (of_uuid u (M y.handle)) ≡ Some l
-        first-named = by (first_below-cases (of_uuid u (M y.handle)).at (M y.handle).slots)
-          where
-            by : ((first_below (of_uuid u (M y.handle)).at (M y.handle).slots ≡ None) × ((k : ℕ) → k < (M y.handle).slots → label_if (has u) ((M y.handle).at k) ≡ None))
-                ⊎ ((a : Label) × (first_below (of_uuid u (M y.handle)).at (M y.handle).slots ≡ Some a) × IsFirst (of_uuid u (M y.handle)).at (M y.handle).slots a) → first (of_uuid u (M y.handle)) ≡ Some l
-            by (inl none) = none_some (label_if (has u) ((M y.handle).at slot)) (none.1 slot (within M bounded y.handle slot l at)) here
-            by (inr found) =
-                let count : number any_label (of_uuid u (M y.handle)) ≡ 1 = whole-count r u M y turn.stands.whole in_r in
-                let e : slot ≡ found.2.slot = count-one any_label (of_uuid u (M y.handle)).at (M y.handle).slots (omega (arith, count)) slot found.2.slot l found.0 (within M bounded y.handle slot l at) found.2.within here found.2.is refl refl in
-                found.1 ∙ sym found.2.is ∙ sym (ap (of_uuid u (M y.handle)).at e) ∙ here
+    all-alike = each-label r u M bounded turn.stands.whole (λ l. needs_healing lead l ≡ false) alike-at
 
     none-updating : any_updating r (labels_with u M) ≡ false
-    none-updating = list_any-never _ r.members (λ y in_r. by y in_r (first (of_uuid u (M y.handle))) refl)
-      where
-        by : (y : Member) (in_r : Contains r.members y) (o : Option Label) → first (of_uuid u (M y.handle)) ≡ o → nat_lt 0 (number is_updating (of_uuid u (M y.handle))) ≡ false
-        by y in_r None none = absurd (none_only (only-first u (M y.handle) count) none)
-          where
-            count : number any_label (of_uuid u (M y.handle)) ≡ 1
-            count = whole-count r u M y turn.stands.whole in_r
-
-            none_only : IsOnly u (M y.handle) (first (of_uuid u (M y.handle))) → first (of_uuid u (M y.handle)) ≡ None → ⊥
-            none_only found e =
-                let not_one : (number any_label (of_uuid u (M y.handle)) == 1) ≡ false = subst (λ o. IsOnly u (M y.handle) o) e found in
-                let clash : true ≡ false = sym (ap (λ n. n == 1) count) ∙ not_one in
-                absurd cc
-        by y in_r (Some l) found =
-            let one : HasOnly u (M y.handle) l = only-of r u M y l turn.stands.whole in_r found in
-            let fine : needs_healing lead l ≡ false = alike-at in_r.0 in_r.1 l (ap (λ (m : Member). first (of_uuid u (M m.handle))) (member-named r y in_r) ∙ found) in
-            let still : is_updating l ≡ false = (well lead l fine).still in
-            ap (nat_lt 0) (one.passes is_updating ∙ (λ i. cond (still i) 1 0))
+    none-updating = list_any-never _ r.members (λ y in_r.
+        let one = the-only r u M y turn.stands.whole in_r in
+        let fine : needs_healing lead one.0 ≡ false = alike-at in_r.0 in_r.1 one.0 (ap (λ (m : Member). first (of_uuid u (M m.handle))) (member-named r y in_r) ∙ one.1.first_is) in
+        let still : is_updating one.0 ≡ false = (well lead one.0 fine).still in
+        ap (nat_lt 0) (one.1.passes is_updating ∙ (λ i. cond (still i) 1 0)))
 
     not-pending : is_pending M r u ≡ false
     not-pending =

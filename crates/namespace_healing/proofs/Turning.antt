@@ -1,28 +1,26 @@
 -- A label of a namespace is healed: the table is kept, and the marks of all other namespaces.
-use Rattle.std.proofs.Common.{◌≡◌, ◌≢◌, ℕ, zero, suc, ◌<◌, true, false, not, ◌&&◌, cond, List, length, drop, Option, Some, None, refl, sym, ap, subst, ◌∙◌, arith}
+use Rattle.std.proofs.Common.{◌≡◌, ◌≢◌, ℕ, zero, suc, ◌<◌, true, false, not, ◌&&◌, cond, List, length, drop, Some, None, refl, sym, ap, subst, ◌∙◌, arith}
 use Rattle.std.specs.Prelude.{◌==◌, ◌||◌}
 use Rattle.std.specs.List.{Contains}
 use Rattle.label_codec.specs.declared.label.Label.{Label}
 use Rattle.label_codec.specs.Flags.{is_updating}
-use Rattle.module_labels.specs.Labels.{Labels, first, has, number, of_uuid}
+use Rattle.module_labels.specs.Labels.{Labels, first, has, of_uuid}
 use Rattle.label_area.specs.Flips.{at_slot}
 use Rattle.region_map.specs.declared.platform.Member.{Member}
 use Rattle.region_map.specs.declared.platform.Platform.{Platform}
 use Rattle.region_map.specs.declared.platform.Region.{Region}
 use Rattle.label_table.specs.Belonging.{belongs, member_at, offset_in}
-use Rattle.label_table.specs.Plain.{HasOnly, IsOnly}
+use Rattle.label_table.specs.Plain.{HasOnly}
 use Rattle.label_table.specs.Spaces.{space, space_if, space_of}
 use Rattle.label_table.specs.Tables.{table}
-use Rattle.label_table.specs.Wholes.{any_label, any_read_only, has_size, labels_with, leading_label, sizes_agree}
+use Rattle.label_table.specs.Wholes.{any_read_only, has_size, labels_with, leading_label, sizes_agree}
 use Rattle.label_table.proofs.Changing.{replaced-elsewhere, replaced-kept}
-use Rattle.label_table.proofs.Confined.{whole-count}
 use Rattle.label_table.proofs.ListTests.{eq_same, some_is}
-use Rattle.label_table.proofs.OnlyLabels.{only-first}
 use Rattle.namespace_healing.specs.Healing.{HaveOneSize}
 use Rattle.namespace_healing.specs.Labels.{healed_label, needs_healing}
 use Rattle.namespace_healing.specs.Namespaces.{IsAlikeAt, IsTurned}
 use Rattle.namespace_healing.proofs.Alike.{belongs-healed, is-well, read_only-kept, well}
-use Rattle.namespace_healing.proofs.Leading.{first-is, member-named, only-of}
+use Rattle.namespace_healing.proofs.Leading.{first-is, member-named, the-only}
 use Rattle.namespace_healing.proofs.Replaced.{IsLedAt, IsReplacedBy}
 use Rattle.namespace_healing.proofs.Replaced as replaced
 
@@ -92,27 +90,14 @@ module _ (P : Platform) (r : Region) (u : List ℕ) (L : Labels) (lead : Label) 
           let k = in_r.0 in
           let y_is : member_at r k ≡ y = member-named r y in_r in
           let some : 0 < k = above k (λ e. away (ap (λ (m : Member). m.handle) (sym y_is ∙ ap (member_at r) (e ∙ sym first_is)))) in
-          let sized = by (first (of_uuid u (L y.handle))) refl in
-          sized k some in_r.1 y_is
+          let one = the-only r u L y led.stands.whole in_r in
+          let fine : needs_healing lead one.0 ≡ false = others_well k some in_r.1 one.0 (ap (λ (m : Member). first (of_uuid u (L m.handle))) y_is ∙ one.1.first_is) in
+          let size : (one.0.raw_size == lead.raw_size) ≡ true = (well lead one.0 fine).size in
+          ap (λ n. n == 1) (one.1.passes (λ other. other.raw_size == lead.raw_size) ∙ (λ i. cond (size i) 1 0))
         where
           above : (k : ℕ) → k ≢ 0 → 0 < k
           above zero differ = absurd (differ refl)
           above (suc k) differ = omega arith
-
-          by : (o : Option Label) → first (of_uuid u (L y.handle)) ≡ o → (k : ℕ) → 0 < k → k < length r.members → member_at r k ≡ y → has_size lead (labels_with u L) y ≡ true
-          by None none k some below y_is = absurd (none_first (only-first u (L y.handle) (whole-count r u L y led.stands.whole in_r)) none)
-            where
-              none_first : IsOnly u (L y.handle) (first (of_uuid u (L y.handle))) → first (of_uuid u (L y.handle)) ≡ None → ⊥
-              none_first found e =
-                  let count : number any_label (of_uuid u (L y.handle)) ≡ 1 = whole-count r u L y led.stands.whole in_r in
-                  let not_one : (number any_label (of_uuid u (L y.handle)) == 1) ≡ false = subst (λ o. IsOnly u (L y.handle) o) e found in
-                  let clash : true ≡ false = sym (ap (λ n. n == 1) count) ∙ not_one in
-                  absurd cc
-          by (Some l) found k some below y_is =
-              let fine : needs_healing lead l ≡ false = others_well k some below l (ap (λ (m : Member). first (of_uuid u (L m.handle))) y_is ∙ found) in
-              let one : HasOnly u (L y.handle) l = only-of r u L y l led.stands.whole in_r found in
-              let size : (l.raw_size == lead.raw_size) ≡ true = (well lead l fine).size in
-              ap (λ n. n == 1) (one.passes (λ other. other.raw_size == lead.raw_size) ∙ (λ i. cond (size i) 1 0))
 
       sizes_new : sizes_agree r new (labels_with u M) ≡ true
       sizes_new =
