@@ -1,0 +1,4 @@
+pub mod Marks
+pub mod Turning
+pub mod Ending
+pub mod Flips
