@@ -1,12 +1,13 @@
 -- The labels of a namespace are marked one after the other, and then it is pending.
 use Rattle.std.proofs.Common.{◌≡◌, ◌≢◌, inl, inr, ℕ, ◌+◌, ◌<◌, ◌≤◌, true, false, not, ◌&&◌, cond, List, length, Option, Some, None, refl, sym, ap, subst, ◌∙◌, arith}
-use Rattle.std.specs.Prelude.{nat_lt, option_map}
+use Rattle.std.specs.Prelude.{◌==◌, nat_lt, option_map}
 use Rattle.std.specs.List.{Contains}
 use Rattle.std.specs.Option.{option_map_or}
 use Rattle.std.proofs.lemmas.Bool.{cases_eq}
 use Rattle.label_codec.specs.declared.label.Label.{Label}
 use Rattle.label_codec.specs.Flags.{is_updating}
 use Rattle.module_labels.specs.Labels.{IsBounded, Labels, first, of_uuid}
+use Rattle.region_map.specs.declared.platform.Member.{Member}
 use Rattle.region_map.specs.declared.platform.Platform.{Platform}
 use Rattle.region_map.specs.declared.platform.Region.{Region}
 use Rattle.region_map.specs.Platforms.{region_at}
@@ -14,10 +15,10 @@ use Rattle.label_table.specs.Belonging.{IsDisjoint, member_at, no_member}
 use Rattle.label_table.specs.Fates.{without_slot}
 use Rattle.label_table.specs.Flips.{EachLabel, other_labels}
 use Rattle.label_table.specs.Spaces.{is_pending}
-use Rattle.label_table.specs.Tables.{changed_at, pending_at, state}
+use Rattle.label_table.specs.Tables.{changed_at, is_member, pending_at, state}
 use Rattle.label_table.specs.Wholes.{any_updating, labels_with}
 use Rattle.label_table.proofs.Equations.{changed_at-same, changed_at-twice}
-use Rattle.label_table.proofs.ListTests.{Contains-get_or, list_any-at, some_is}
+use Rattle.label_table.proofs.ListTests.{Contains-get_or, eq_same, list_any-at, some_is}
 use Rattle.namespace_healing.specs.Namespaces.{IsOpen, label_at}
 use Rattle.namespace_healing.proofs.Ending.{some-members}
 use Rattle.namespace_healing.proofs.Leading.{each-label, the-only}
@@ -34,6 +35,7 @@ marked-start P r u L is_open = record {
   mark = λ position below lt. absurd (omega (arith, below));
   left = λ position above lt. refl;
   others = λ handle. refl;
+  elsewhere = λ handle away. refl;
 }
 
 module _ (P : Platform) (disjoint : IsDisjoint P) (r : Region) (r_in : Contains P.regions r) (u : List ℕ) (start L M : Labels) where
@@ -52,8 +54,15 @@ module _ (P : Platform) (disjoint : IsDisjoint P) (r : Region) (r_in : Contains 
       | inl e ↦ subst (λ h. other_labels u (M h) ≡ other_labels u (L h)) (sym e) turn.confined.rest ∙ to.others handle
       | inr differ ↦ ap (other_labels u) (turn.confined.others handle differ) ∙ to.others handle
     ];
+    elsewhere = λ handle outside. turn.confined.others handle (λ same. absurd (apart (sym outside ∙ ap (is_member r) same ∙ member))) ∙ to.elsewhere handle outside;
   }
     where
+      apart : false ≡ true → ⊥
+      apart e = cc
+
+      member : is_member r (member_at r i).handle ≡ true
+      member = list_any-at (λ (y : Member). y.handle == (member_at r i).handle) r.members (member_at r i) (Contains-get_or r.members i no_member lt) (eq_same (member_at r i).handle (member_at r i).handle refl)
+
       away : (j : ℕ) → j < length r.members → j ≢ i → label_at M r u j ≡ label_at L r u j
       away j j_lt differ = ap (λ N. first (of_uuid u N)) (turn.confined.others (member_at r j).handle (λ same. differ (disjoint.positions r j i r_in j_lt lt same)))
 

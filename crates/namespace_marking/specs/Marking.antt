@@ -8,7 +8,7 @@ use Rattle.region_map.specs.declared.platform.Region.{Region}
 use Rattle.label_table.specs.Belonging.{member_at}
 use Rattle.label_table.specs.Fates.{without_slot}
 use Rattle.label_table.specs.Flips.{EachLabel, IsConfined, other_labels}
-use Rattle.label_table.specs.Tables.{changed_at, state, table}
+use Rattle.label_table.specs.Tables.{changed_at, is_member, state, table}
 use Rattle.region_sets.specs.declared.modules.LoadedModule.{LoadedModule}
 use Rattle.region_sets.specs.declared.region.RegionLabels.{RegionLabels}
 use Rattle.region_sets.specs.Fates.{platform_of}
@@ -43,7 +43,7 @@ pub record IsMarkedAt (platform : Platform) (region : Region) (uuid : List ℕ) 
   pub mark : HasMark region uuid position before after
   pub confined : IsConfined uuid (member_at region position).handle before after
 
--- The labels of the positions below one are marked, and those from there on are as they were.
+-- The labels of the positions below one are marked, and those from there on are as they were, and so are all others.
 pub record IsMarkedTo (platform : Platform) (region : Region) (uuid : List ℕ) (end : ℕ)
     (before after : Labels) : Type 0 where
   pub same_table : table platform after ≡ table platform before
@@ -55,6 +55,7 @@ pub record IsMarkedTo (platform : Platform) (region : Region) (uuid : List ℕ) 
   pub left : (position : ℕ) → end ≤ position → position < length region.members
       → label_at after region uuid position ≡ label_at before region uuid position
   pub others : (handle : ℕ) → other_labels uuid (after handle) ≡ other_labels uuid (before handle)
+  pub elsewhere : (handle : ℕ) → is_member region handle ≡ false → after handle ≡ before handle
 
 -- All labels of the namespace are marked. The table is kept and the namespace is pending. The marks of all others are
 -- kept, and so are all other labels, and each module has as many free slots as before.
@@ -68,4 +69,5 @@ pub record IsMarked (modules : List LoadedModule) (regions : List RegionLabels) 
       → HasMark region uuid position (labels_in modules) (labels_in now)
   pub updating : EachLabel region uuid (labels_in now) (λ member label. is_updating label ≡ true)
   pub others : (handle : ℕ) → other_labels uuid (labels_in now handle) ≡ other_labels uuid (labels_in modules handle)
+  pub elsewhere : (handle : ℕ) → is_member region handle ≡ false → labels_in now handle ≡ labels_in modules handle
   pub same_free : map free_slots now ≡ map free_slots modules

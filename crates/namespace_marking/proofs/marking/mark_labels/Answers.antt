@@ -90,5 +90,6 @@ returns-clause-marked g c =
       mark = all-marked P disjoint region c.requires.can.region_in u start M bounded end all to;
       updating = all-updating P disjoint region c.requires.can.region_in u start M bounded end all to;
       others = to.others;
+      elsewhere = to.elsewhere;
       same_free = pass.same_free;
     }
