@@ -1,8 +1,9 @@
 -- The label of position 0, and the labels of a namespace by the members of its region.
-use Rattle.std.proofs.Common.{◌≡◌, ◌⊎◌, inl, inr, ℕ, zero, suc, ◌<◌, true, false, List, [], ◌∷◌, length, get_or, drop, Option, Some, None, refl, sym, ap, subst, ◌∙◌, arith}
-use Rattle.std.specs.Prelude.{◌==◌}
+use Rattle.std.proofs.Common.{◌≡◌, ◌⊎◌, inl, inr, ℕ, zero, suc, ◌<◌, Bool, true, false, cond, List, [], ◌∷◌, length, get_or, drop, Option, Some, None, refl, sym, ap, subst, ◌∙◌, arith}
+use Rattle.std.specs.Prelude.{◌==◌, nat_lt}
 use Rattle.std.specs.List.{Contains}
 use Rattle.label_codec.specs.declared.label.Label.{Label}
+use Rattle.label_codec.specs.Flags.{is_read_only}
 use Rattle.module_labels.specs.Labels.{IsBounded, Labels, first, first_below, has, label_if, number, of_uuid}
 use Rattle.module_labels.proofs.Counting.{IsFirst, count-one, first_below-cases}
 use Rattle.region_map.specs.declared.platform.Member.{Member}
@@ -10,10 +11,10 @@ use Rattle.region_map.specs.declared.platform.Region.{Region}
 use Rattle.label_table.specs.Belonging.{member_at, no_member}
 use Rattle.label_table.specs.Flips.{EachLabel}
 use Rattle.label_table.specs.Plain.{HasOnly, IsOnly}
-use Rattle.label_table.specs.Wholes.{any_label, is_whole, leading_among, leading_label}
+use Rattle.label_table.specs.Wholes.{any_label, any_read_only, is_whole, labels_with, leading_among, leading_label}
 use Rattle.label_table.proofs.Confined.{whole-count}
 use Rattle.label_table.proofs.Leaving.{label_if-passes, within}
-use Rattle.label_table.proofs.ListTests.{none_some, some_is}
+use Rattle.label_table.proofs.ListTests.{list_any-none, none_some, some_is}
 use Rattle.label_table.proofs.OnlyLabels.{only-first}
 
 -- the first of some members
@@ -47,6 +48,14 @@ the-only r u L x whole in_r = by (first (of_uuid u (L x.handle))) (only-first u 
     by : (o : Option Label) → IsOnly u (L x.handle) o → (l : Label) × HasOnly u (L x.handle) l
     by None not_one = absurd (let clash : true ≡ false = sym (ap (λ n. n == 1) count) ∙ not_one in cc)
     by (Some l) is = (l, is)
+
+-- which is not read-only where none is
+pub only-writable : (r : Region) (u : List ℕ) (L : Labels) (x : Member) (l : Label) → any_read_only r (labels_with u L) ≡ false → Contains r.members x → HasOnly u (L x.handle) l → is_read_only l ≡ false
+only-writable r u L x l writable in_r only = by (is_read_only l) (only.passes is_read_only) (list_any-none _ r.members x writable in_r)
+  where
+    by : (b : Bool) → number is_read_only (of_uuid u (L x.handle)) ≡ cond b 1 0 → nat_lt 0 (number is_read_only (of_uuid u (L x.handle))) ≡ false → b ≡ false
+    by true e f = absurd (let clash : false ≡ true = sym f ∙ ap (nat_lt 0) e in cc)
+    by false e f = refl
 
 -- what holds of the label at each position holds of each label
 pub each-label : (r : Region) (u : List ℕ) (L : Labels) → IsBounded L → is_whole L r u ≡ true → (fact : Label → Type 0)

@@ -25,7 +25,7 @@ use Rattle.label_table.proofs.OneFlip.{confined-by, with_module-bounded, with_mo
 use Rattle.label_table.proofs.OnlyLabels.{only-passes}
 use Rattle.label_table.proofs.Order.{space-uuid}
 use Rattle.namespace_healing.specs.Namespaces.{IsOpen}
-use Rattle.namespace_healing.proofs.Leading.{leading-first, only-of}
+use Rattle.namespace_healing.proofs.Leading.{leading-first, only-of, only-writable}
 use Rattle.namespace_healing.proofs.Replacing as module_after
 
 -- A namespace of a region that is not read-only, the label of position 0, and a position.
@@ -127,14 +127,7 @@ module _ (P : Platform) (r : Region) (u : List ℕ) (L : Labels) (lead : Label) 
     ]
 
     writable_own : is_read_only own ≡ false
-    writable_own = by (is_read_only own) (it.only.passes is_read_only) (list_any-none _ r.members x led.stands.writable x_in)
-      where
-        by : (b : Bool) → number is_read_only (of_uuid u (L x.handle)) ≡ cond b 1 0 → nat_lt 0 (number is_read_only (of_uuid u (L x.handle))) ≡ false → b ≡ false
-        by true e f = absurd (false_true (sym f ∙ ap (nat_lt 0) e))
-          where
-            false_true : false ≡ true → ⊥
-            false_true t = cc
-        by false e f = refl
+    writable_own = only-writable r u L x own led.stands.writable x_in it.only
 
     pub writable_after : any_read_only r (labels_with u M) ≡ false
     writable_after = list_any-never _ r.members (λ y in_r. by-handle y.handle (λ h N. nat_lt 0 (number is_read_only N) ≡ false)

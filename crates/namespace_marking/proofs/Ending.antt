@@ -5,7 +5,7 @@ use Rattle.std.specs.List.{Contains}
 use Rattle.std.specs.Option.{option_map_or}
 use Rattle.std.proofs.lemmas.Bool.{cases_eq}
 use Rattle.label_codec.specs.declared.label.Label.{Label}
-use Rattle.label_codec.specs.Flags.{is_updating}
+use Rattle.label_codec.specs.Flags.{is_read_only, is_updating}
 use Rattle.module_labels.specs.Labels.{IsBounded, Labels, first, of_uuid}
 use Rattle.region_map.specs.declared.platform.Member.{Member}
 use Rattle.region_map.specs.declared.platform.Platform.{Platform}
@@ -13,7 +13,7 @@ use Rattle.region_map.specs.declared.platform.Region.{Region}
 use Rattle.region_map.specs.Platforms.{region_at}
 use Rattle.label_table.specs.Belonging.{IsDisjoint, member_at, no_member}
 use Rattle.label_table.specs.Fates.{without_slot}
-use Rattle.label_table.specs.Flips.{EachLabel, other_labels}
+use Rattle.label_table.specs.Flips.{AllStale, other_labels}
 use Rattle.label_table.specs.Spaces.{is_pending}
 use Rattle.label_table.specs.Tables.{changed_at, is_member, pending_at, state}
 use Rattle.label_table.specs.Wholes.{any_updating, labels_with}
@@ -21,7 +21,7 @@ use Rattle.label_table.proofs.Equations.{changed_at-same, changed_at-twice}
 use Rattle.label_table.proofs.ListTests.{Contains-get_or, eq_same, list_any-at, some_is}
 use Rattle.namespace_healing.specs.Namespaces.{IsOpen, label_at}
 use Rattle.namespace_healing.proofs.Ending.{some-members}
-use Rattle.namespace_healing.proofs.Leading.{each-label, the-only}
+use Rattle.namespace_healing.proofs.Leading.{each-label, only-of, only-writable, the-only}
 use Rattle.namespace_marking.specs.Labels.{marked}
 use Rattle.namespace_marking.specs.Marking.{HasMark, IsMarkedAt, IsMarkedTo}
 use Rattle.namespace_marking.proofs.Marks.{is-updating}
@@ -77,8 +77,10 @@ module _ (P : Platform) (disjoint : IsDisjoint P) (r : Region) (r_in : Contains 
       by None e = absurd cc
       by (Some own) e = ap is_updating (some_is e) ∙ is-updating own.name own
 
-  pub all-updating : EachLabel r u M (λ member label. is_updating label ≡ true)
-  all-updating = each-label r u M bounded to.stands.whole (λ l. is_updating l ≡ true) updating-at
+  pub all-stale : AllStale r u M
+  all-stale = each-label r u M bounded to.stands.whole (λ l. (is_updating l ≡ true) × (is_read_only l ≡ false)) (λ position lt l at.
+      let there = Contains-get_or r.members position no_member lt in
+      (updating-at position lt l at, only-writable r u M (member_at r position) l to.stands.writable there (only-of r u M (member_at r position) l to.stands.whole there at)))
 
   any-updating : any_updating r (labels_with u M) ≡ true
   any-updating =

@@ -7,7 +7,7 @@ use Rattle.region_map.specs.declared.platform.Platform.{Platform}
 use Rattle.region_map.specs.declared.platform.Region.{Region}
 use Rattle.label_table.specs.Belonging.{member_at}
 use Rattle.label_table.specs.Fates.{without_slot}
-use Rattle.label_table.specs.Flips.{EachLabel, IsConfined, other_labels}
+use Rattle.label_table.specs.Flips.{AllStale, IsConfined, other_labels}
 use Rattle.label_table.specs.Tables.{changed_at, is_member, state, table}
 use Rattle.region_sets.specs.declared.modules.LoadedModule.{LoadedModule}
 use Rattle.region_sets.specs.declared.region.RegionLabels.{RegionLabels}
@@ -67,7 +67,7 @@ pub record IsMarked (modules : List LoadedModule) (regions : List RegionLabels) 
   pub stands : IsOpen (labels_in now) region uuid
   pub mark : (position : ℕ) → position < length region.members
       → HasMark region uuid position (labels_in modules) (labels_in now)
-  pub updating : EachLabel region uuid (labels_in now) (λ member label. is_updating label ≡ true)
+  pub stale : AllStale region uuid (labels_in now)
   pub others : (handle : ℕ) → other_labels uuid (labels_in now handle) ≡ other_labels uuid (labels_in modules handle)
   pub elsewhere : (handle : ℕ) → is_member region handle ≡ false → labels_in now handle ≡ labels_in modules handle
   pub same_free : map free_slots now ≡ map free_slots modules

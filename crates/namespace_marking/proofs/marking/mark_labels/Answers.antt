@@ -8,7 +8,7 @@ use Rattle.region_sets.specs.Regions.{handles}
 use Rattle.namespace_healing.proofs.Bounded.{all-bounded}
 use Rattle.namespace_healing.proofs.Passing.{can-still, no-pass, passed-on, sized-on}
 use Rattle.namespace_marking.specs.Marking.{AreUpdating, IsMarkedAt, IsUpdatingAt}
-use Rattle.namespace_marking.proofs.Ending.{all-marked, all-marks, all-updating, marked-more, marked-start}
+use Rattle.namespace_marking.proofs.Ending.{all-marked, all-marks, all-stale, marked-more, marked-start}
 use Rattle.namespace_marking.proofs.marking.mark_labels.Goals as goal
 
 pub loop-position-init : goal.loop-position-init
@@ -88,7 +88,7 @@ returns-clause-marked g c =
       marks = all-marks P disjoint region c.requires.can.region_in u start M bounded end all to;
       stands = to.stands;
       mark = all-marked P disjoint region c.requires.can.region_in u start M bounded end all to;
-      updating = all-updating P disjoint region c.requires.can.region_in u start M bounded end all to;
+      stale = all-stale P disjoint region c.requires.can.region_in u start M bounded end all to;
       others = to.others;
       elsewhere = to.elsewhere;
       same_free = pass.same_free;
