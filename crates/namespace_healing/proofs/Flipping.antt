@@ -43,7 +43,7 @@ use Rattle.namespace_healing.specs.Passes.{HasTableOf, IsPass, label_number}
 use Rattle.namespace_healing.proofs.Bounded.{all-bounded}
 use Rattle.namespace_healing.proofs.Counts.{put-number}
 use Rattle.namespace_healing.proofs.Passing.{IsStill, still-kept}
-use Rattle.namespace_healing.proofs.Replaced.{IsLedAt}
+use Rattle.namespace_healing.proofs.Replaced.{HasPlaces, IsLedAt}
 
 -- what stands for a module that is not there
 abbrev pub no_module : LoadedModule
@@ -172,11 +172,17 @@ module _ (ms : List LoadedModule) (rs : List RegionLabels) (region : Region) (u 
     after d = with_put_at (dimm_at ms place.seat) (first_slot_in (get_or ms place.seat d)) label (Some place.slot) L
 
     -- what holds of the labels afterwards, whichever the free slot is
-    pub flip-makes : (fact : Labels → Type 0) → ((slot : ℕ) → slot < (L x.handle).slots → (L x.handle).at slot ≡ None → fact (with_put_at x.handle slot label (Some place.slot) L)) → (d : LoadedModule) → fact (after d)
+    pub flip-makes : (fact : Labels → Type 0) → ((slot : ℕ) → HasPlaces region u L position place.slot slot place.label → fact (with_put_at x.handle slot label (Some place.slot) L)) → (d : LoadedModule) → fact (after d)
     flip-makes fact made d =
         let slot = first_slot_in (get_or ms place.seat d) in
-        subst (λ h. fact (with_put_at h slot label (Some place.slot) L)) (sym (dimm-is d))
-        (made slot (subst (λ (N : Module). slot < N.slots) (sym (here-is d)) (within d)) (ap (λ (N : Module). N.at slot) (here-is d) ∙ was_free d))
+        subst (λ h. fact (with_put_at h slot label (Some place.slot) L)) (sym (dimm-is d)) (made slot (record {
+          within = at.slot_within;
+          is = at.is;
+          has_own = at.has_uuid;
+          only = at.only;
+          slot_within = subst (λ (N : Module). slot < N.slots) (sym (here-is d)) (within d);
+          free = ap (λ (N : Module). N.at slot) (here-is d) ∙ was_free d;
+        }))
 
     pub flip-still : {T E : Type 0} (result : Result T E) (now : List LoadedModule) (regions_now : List RegionLabels) → OnOk result (IsPutAt ms now place.seat label (Some place.slot)) → OnOk result (StaysTogether ms rs now regions_now)
         → ((d : LoadedModule) → OnOk result (free_slots (get_or now place.seat d) + 1 ≡ free_slots (get_or ms place.seat d) + 1))

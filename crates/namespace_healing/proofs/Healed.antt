@@ -24,10 +24,10 @@ module _ (ms : List LoadedModule) (rs : List RegionLabels) (region : Region) (u 
       → (d : LoadedModule) → IsTurned (platform_of rs) region u lead position (labels_in ms) (after ms rs region u position lt turn.can place at healed within was_free d)
   flip-turn healed healed_is within was_free =
       subst (λ (l : Label). (d : LoadedModule) → IsTurned (platform_of rs) region u lead position (labels_in ms) (after ms rs region u position lt turn.can place at l within was_free d)) (sym healed_is)
-      (flip-makes ms rs region u position lt turn.can place at (healed_label lead place.label) within was_free (IsTurned (platform_of rs) region u lead position (labels_in ms)) (λ slot slot_within slot_free.
+      (flip-makes ms rs region u position lt turn.can place at (healed_label lead place.label) within was_free (IsTurned (platform_of rs) region u lead position (labels_in ms)) (λ slot places.
       elim (cases_eq position 0) [
-        | inl first ↦ turn-first (platform_of rs) region u (labels_in ms) lead position led turn.can.same_sizes place.slot slot place.label at.slot_within at.is at.has_uuid at.only slot_within slot_free first (turn.last first)
-        | inr behind ↦ turn-behind (platform_of rs) region u (labels_in ms) lead position led turn.can.same_sizes place.slot slot place.label at.slot_within at.is at.has_uuid at.only slot_within slot_free (above position behind)
+        | inl first ↦ turn-first (platform_of rs) region u (labels_in ms) lead position led turn.can.same_sizes place.slot slot place.label places first (turn.last first)
+        | inr behind ↦ turn-behind (platform_of rs) region u (labels_in ms) lead position led turn.can.same_sizes place.slot slot place.label places (above position behind)
       ]))
     where
       led : IsLedAt (platform_of rs) region u (labels_in ms) lead position

@@ -37,14 +37,18 @@ pub record IsLedAt (P : Platform) (r : Region) (u : List ℕ) (L : Labels) (lead
   pub leads : leading_label r (labels_with u L) ≡ Some lead
   pub within : position < length r.members
 
--- Its label in a slot of the module there, and another one that may come into a free slot.
-pub record IsReplacedBy (r : Region) (u : List ℕ) (L : Labels) (position old slot : ℕ) (own new : Label) : Type 0 where
+-- Its label in a slot of the module there, and another slot that is free.
+pub record HasPlaces (r : Region) (u : List ℕ) (L : Labels) (position old slot : ℕ) (own : Label) : Type 0 where
   pub within : old < (L (member_at r position).handle).slots
   pub is : (L (member_at r position).handle).at old ≡ Some own
   pub has_own : has u own ≡ true
   pub only : HasOnly u (L (member_at r position).handle) own
   pub slot_within : slot < (L (member_at r position).handle).slots
   pub free : (L (member_at r position).handle).at slot ≡ None
+
+-- A label that may come there in its place.
+pub record IsReplacedBy (r : Region) (u : List ℕ) (L : Labels) (position old slot : ℕ) (own new : Label) : Type 0 where
+  pub places : HasPlaces r u L position old slot own
   pub has_new : has u new ≡ true
   pub offset : offset_in r new ≡ offset_in r own
   pub writable : is_read_only new ≡ is_read_only own
@@ -99,7 +103,7 @@ module _ (P : Platform) (r : Region) (u : List ℕ) (L : Labels) (lead : Label) 
   -- The label is replaced.
   module _ (old slot : ℕ) (own new : Label) (it : IsReplacedBy r u L position old slot own new) where
     abbrev pub area_after : Module
-    area_after = module_after.replaced u (L x.handle) old slot own new it.within it.is it.has_own it.only it.slot_within it.free it.has_new
+    area_after = module_after.replaced u (L x.handle) old slot own new it.places.within it.places.is it.places.has_own it.places.only it.places.slot_within it.places.free it.has_new
 
     abbrev pub M : Labels
     M = with_module x.handle area_after L
@@ -108,13 +112,13 @@ module _ (P : Platform) (r : Region) (u : List ℕ) (L : Labels) (lead : Label) 
     here = with_module-here x.handle area_after L
 
     pub only_new : HasOnly u (M x.handle) new
-    only_new = subst (λ N. HasOnly u N new) (sym here) (module_after.only-new u (L x.handle) old slot own new it.within it.is it.has_own it.only it.slot_within it.free it.has_new)
+    only_new = subst (λ N. HasOnly u N new) (sym here) (module_after.only-new u (L x.handle) old slot own new it.places.within it.places.is it.places.has_own it.places.only it.places.slot_within it.places.free it.has_new)
 
     pub confined : IsConfined u x.handle L M
-    confined = confined-by u x.handle area_after L (module_after.others-kept u (L x.handle) old slot own new it.within it.is it.has_own it.only it.slot_within it.free it.has_new)
+    confined = confined-by u x.handle area_after L (module_after.others-kept u (L x.handle) old slot own new it.places.within it.places.is it.places.has_own it.places.only it.places.slot_within it.places.free it.has_new)
 
     bounded_after : IsBounded M
-    bounded_after = with_module-bounded L led.bounded x.handle area_after (module_after.still-bounded u (L x.handle) old slot own new it.within it.is it.has_own it.only it.slot_within it.free it.has_new (led.bounded.past x.handle))
+    bounded_after = with_module-bounded L led.bounded x.handle area_after (module_after.still-bounded u (L x.handle) old slot own new it.places.within it.places.is it.places.has_own it.places.only it.places.slot_within it.places.free it.has_new (led.bounded.past x.handle))
 
     pub elsewhere : (h : ℕ) → h ≢ x.handle → labels_with u M h ≡ labels_with u L h
     elsewhere h differ = ap (of_uuid u) (with_module-other x.handle area_after L h differ)
@@ -127,7 +131,7 @@ module _ (P : Platform) (r : Region) (u : List ℕ) (L : Labels) (lead : Label) 
     ]
 
     writable_own : is_read_only own ≡ false
-    writable_own = only-writable r u L x own led.stands.writable x_in it.only
+    writable_own = only-writable r u L x own led.stands.writable x_in it.places.only
 
     pub writable_after : any_read_only r (labels_with u M) ≡ false
     writable_after = list_any-never _ r.members (λ y in_r. by-handle y.handle (λ h N. nat_lt 0 (number is_read_only N) ≡ false)
@@ -147,7 +151,7 @@ module _ (P : Platform) (r : Region) (u : List ℕ) (L : Labels) (lead : Label) 
     module _ (stays : belongs r x.handle new ≡ true) (now : Label) (offset : offset_in r now ≡ offset_in r lead) (leads_now : leading_label r (labels_with u M) ≡ Some now) (sizes : sizes_agree r now (labels_with u M) ≡ true) where
       agrees_new : agrees r lead x.handle new ≡ true
       agrees_new =
-          let same = (and_parts (belongs r x.handle own) _ (agrees-before x own x_in it.only)).1 in
+          let same = (and_parts (belongs r x.handle own) _ (agrees-before x own x_in it.places.only)).1 in
           (λ i. stays i && it.offset i == offset_in r lead) ∙ same
 
       ones_after : list_all (has_one r now (labels_with u M)) r.members ≡ true
@@ -210,7 +214,7 @@ module _ (P : Platform) (r : Region) (u : List ℕ) (L : Labels) (lead : Label) 
     -- and at position 0
     module _ (first_is : position ≡ 0) where
       pub own-is : own ≡ lead
-      own-is = some_is (sym it.only.first_is ∙ ap (λ (m : Member). first (of_uuid u (L m.handle))) (ap (member_at r) first_is) ∙ lead-first)
+      own-is = some_is (sym it.places.only.first_is ∙ ap (λ (m : Member). first (of_uuid u (L m.handle))) (ap (member_at r) first_is) ∙ lead-first)
 
       pub leads_new : leading_label r (labels_with u M) ≡ Some new
       leads_new = leading-first r (labels_with u M) some_members ∙ ap (λ (m : Member). first (labels_with u M m.handle)) (ap (member_at r) (sym first_is)) ∙ only_new.first_is

@@ -1,16 +1,15 @@
 -- A label of a namespace is healed: the table is kept, and the marks of all other namespaces.
-use Rattle.std.proofs.Common.{◌≡◌, ◌≢◌, ℕ, zero, suc, ◌<◌, true, false, not, ◌&&◌, cond, List, length, drop, Some, None, refl, sym, ap, subst, ◌∙◌, arith}
+use Rattle.std.proofs.Common.{◌≡◌, ◌≢◌, ℕ, zero, suc, ◌<◌, true, false, not, ◌&&◌, cond, List, length, drop, Some, refl, sym, ap, subst, ◌∙◌, arith}
 use Rattle.std.specs.Prelude.{◌==◌, ◌||◌}
 use Rattle.std.specs.List.{Contains}
 use Rattle.label_codec.specs.declared.label.Label.{Label}
 use Rattle.label_codec.specs.Flags.{is_updating}
-use Rattle.module_labels.specs.Labels.{Labels, first, has, of_uuid}
+use Rattle.module_labels.specs.Labels.{Labels, first, of_uuid}
 use Rattle.label_area.specs.Flips.{at_slot}
 use Rattle.region_map.specs.declared.platform.Member.{Member}
 use Rattle.region_map.specs.declared.platform.Platform.{Platform}
 use Rattle.region_map.specs.declared.platform.Region.{Region}
 use Rattle.label_table.specs.Belonging.{belongs, member_at, offset_in}
-use Rattle.label_table.specs.Plain.{HasOnly}
 use Rattle.label_table.specs.Spaces.{space, space_if, space_of}
 use Rattle.label_table.specs.Tables.{table}
 use Rattle.label_table.specs.Wholes.{any_read_only, has_size, labels_with, leading_label, sizes_agree}
@@ -21,7 +20,7 @@ use Rattle.namespace_healing.specs.Labels.{healed_label, needs_healing}
 use Rattle.namespace_healing.specs.Namespaces.{IsAlikeAt, IsTurned}
 use Rattle.namespace_healing.proofs.Alike.{belongs-healed, is-well, read_only-kept, well}
 use Rattle.namespace_healing.proofs.Leading.{first-is, member-named, the-only}
-use Rattle.namespace_healing.proofs.Replaced.{IsLedAt, IsReplacedBy}
+use Rattle.namespace_healing.proofs.Replaced.{HasPlaces, IsLedAt, IsReplacedBy}
 use Rattle.namespace_healing.proofs.Replaced as replaced
 
 -- A namespace of a region, and the label of position 0.
@@ -30,23 +29,12 @@ module _ (P : Platform) (r : Region) (u : List ℕ) (L : Labels) (lead : Label) 
   x = member_at r position
 
   -- The label is replaced.
-  module _ (old slot : ℕ) (own : Label) (within : old < (L x.handle).slots) (is : (L x.handle).at old ≡ Some own) (has_own : has u own ≡ true) (only : HasOnly u (L x.handle) own)
-      (slot_within : slot < (L x.handle).slots) (free : (L x.handle).at slot ≡ None) where
+  module _ (old slot : ℕ) (own : Label) (places : HasPlaces r u L position old slot own) where
     abbrev pub new : Label
     new = at_slot slot (healed_label lead own)
 
     pub it : IsReplacedBy r u L position old slot own new
-    it = record {
-      within = within;
-      is = is;
-      has_own = has_own;
-      only = only;
-      slot_within = slot_within;
-      free = free;
-      has_new = has_own;
-      offset = refl;
-      writable = read_only-kept lead own;
-    }
+    it = record { places = places; has_new = places.has_own; offset = refl; writable = read_only-kept lead own }
 
     abbrev pub M : Labels
     M = replaced.M P r u L lead position led old slot own new it
@@ -57,7 +45,7 @@ module _ (P : Platform) (r : Region) (u : List ℕ) (L : Labels) (lead : Label) 
         let x0_in = replaced.x0_in P r u L lead position led in
         let lead_only = replaced.lead-only P r u L lead position led in
         belongs-healed r x.handle (member_at r 0).handle lead own slot one_size (replaced.belongs-before P r u L lead position led (member_at r 0) lead x0_in lead_only)
-        (replaced.belongs-before P r u L lead position led x own x_in only) (replaced.offset-before P r u L lead position led x own x_in only)
+        (replaced.belongs-before P r u L lead position led x own x_in places.only) (replaced.offset-before P r u L lead position led x own x_in places.only)
 
     same_size : (new.raw_size == lead.raw_size) ≡ true
     same_size = eq_same lead.raw_size lead.raw_size refl

@@ -47,11 +47,11 @@ module _ (ms : List LoadedModule) (rs : List RegionLabels) (region : Region) (u 
     made = after ms rs region u position lt can place at label within was_free
 
     pub mark-turn : label ≡ marked_label place.label → (d : LoadedModule) → IsMarkedAt P region u position L (made d)
-    mark-turn label_is = flip-makes ms rs region u position lt can place at label within was_free (IsMarkedAt P region u position L) (λ slot slot_within slot_free.
+    mark-turn label_is = flip-makes ms rs region u position lt can place at label within was_free (IsMarkedAt P region u position L) (λ slot places.
         subst (λ (l : Label). IsMarkedAt P region u position L (with_put_at (member_at region position).handle slot l (Some place.slot) L)) (sym label_is)
         (elim (cases_eq position 0) [
-          | inl first ↦ mark-first P region u L leader.lead position led place.slot slot place.label at.slot_within at.is at.has_uuid at.only slot_within slot_free first
-          | inr behind ↦ mark-behind P region u L leader.lead position led place.slot slot place.label at.slot_within at.is at.has_uuid at.only slot_within slot_free (above position behind)
+          | inl first ↦ mark-first P region u L leader.lead position led place.slot slot place.label places first
+          | inr behind ↦ mark-behind P region u L leader.lead position led place.slot slot place.label places (above position behind)
         ]))
       where
         above : (k : ℕ) → (k ≡ 0 → ⊥) → 0 < k
@@ -59,6 +59,6 @@ module _ (ms : List LoadedModule) (rs : List RegionLabels) (region : Region) (u 
         above (suc k) differ = omega arith
 
     pub rename-turn : (name : List ℕ) → label ≡ renamed_label name place.label → position ≡ 0 → (d : LoadedModule) → HasName P region u name L (made d)
-    rename-turn name label_is first = flip-makes ms rs region u position lt can place at label within was_free (HasName P region u name L) (λ slot slot_within slot_free.
+    rename-turn name label_is first = flip-makes ms rs region u position lt can place at label within was_free (HasName P region u name L) (λ slot places.
         subst (λ (l : Label). HasName P region u name L (with_put_at (member_at region position).handle slot l (Some place.slot) L)) (sym label_is)
-        (named P region u L leader.lead position led name place.slot slot place.label at.slot_within at.is at.has_uuid at.only slot_within slot_free first))
+        (named P region u L leader.lead position led name place.slot slot place.label places first))

@@ -5,7 +5,7 @@ use Rattle.std.specs.List.{list_all}
 use Rattle.std.specs.Option.{option_map_or}
 use Rattle.label_codec.specs.declared.label.Label.{Label}
 use Rattle.label_codec.specs.Flags.{is_updating}
-use Rattle.module_labels.specs.Labels.{Labels, has, number}
+use Rattle.module_labels.specs.Labels.{Labels, number}
 use Rattle.label_area.specs.Flips.{at_slot}
 use Rattle.region_map.specs.declared.platform.Member.{Member}
 use Rattle.region_map.specs.declared.platform.Platform.{Platform}
@@ -23,7 +23,7 @@ use Rattle.label_table.proofs.ListTests.{list_all-at, list_any-at}
 use Rattle.label_table.proofs.Order.{space-uuid}
 use Rattle.namespace_healing.specs.Namespaces.{IsOpen, label_at}
 use Rattle.namespace_healing.proofs.Leading.{first-is}
-use Rattle.namespace_healing.proofs.Replaced.{IsLedAt, IsReplacedBy}
+use Rattle.namespace_healing.proofs.Replaced.{HasPlaces, IsLedAt, IsReplacedBy}
 use Rattle.namespace_healing.proofs.Replaced as replaced
 use Rattle.namespace_marking.specs.Labels.{marked, marked_label, renamed, renamed_label}
 use Rattle.namespace_marking.specs.Marking.{IsMarkedAt}
@@ -57,29 +57,18 @@ module _ (P : Platform) (r : Region) (u : List ℕ) (L : Labels) (lead : Label) 
   }
 
   -- The label is replaced.
-  module _ (name : List ℕ) (old slot : ℕ) (own : Label) (within : old < (L x.handle).slots) (is : (L x.handle).at old ≡ Some own) (has_own : has u own ≡ true) (only : HasOnly u (L x.handle) own)
-      (slot_within : slot < (L x.handle).slots) (free : (L x.handle).at slot ≡ None) where
+  module _ (name : List ℕ) (old slot : ℕ) (own : Label) (places : HasPlaces r u L position old slot own) where
     abbrev pub new : Label
     new = at_slot slot (renamed_label name own)
 
     pub it : IsReplacedBy r u L position old slot own new
-    it = record {
-      within = within;
-      is = is;
-      has_own = has_own;
-      only = only;
-      slot_within = slot_within;
-      free = free;
-      has_new = has_own;
-      offset = refl;
-      writable = read_only-kept name own;
-    }
+    it = record { places = places; has_new = places.has_own; offset = refl; writable = read_only-kept name own }
 
     abbrev pub M : Labels
     M = replaced.M P r u L lead position led old slot own new it
 
     stays : belongs r x.handle new ≡ true
-    stays = belongs-same r x.handle slot name own ∙ replaced.belongs-before P r u L lead position led x own (replaced.x_in P r u L lead position led) only
+    stays = belongs-same r x.handle slot name own ∙ replaced.belongs-before P r u L lead position led x own (replaced.x_in P r u L lead position led) places.only
 
     writable_after : any_read_only r (labels_with u M) ≡ false
     writable_after = replaced.writable_after P r u L lead position led old slot own new it
@@ -127,7 +116,7 @@ module _ (P : Platform) (r : Region) (u : List ℕ) (L : Labels) (lead : Label) 
               pending = changed_at r (uuid_is i) (pending_after i) (pending_at P L);
             });
         stands = open_after;
-        label = ap (λ (k : ℕ). option_map without_slot (first_of k M)) (sym first_is) ∙ ap (option_map without_slot) only_new.first_is ∙ sym (ap (option_map (renamed name)) only.first_is) ∙ ap (λ (k : ℕ). option_map (renamed name) (first_of k L)) first_is;
+        label = ap (λ (k : ℕ). option_map without_slot (first_of k M)) (sym first_is) ∙ ap (option_map without_slot) only_new.first_is ∙ sym (ap (option_map (renamed name)) places.only.first_is) ∙ ap (λ (k : ℕ). option_map (renamed name) (first_of k L)) first_is;
         confined = subst (λ (k : ℕ). IsConfined u (member_at r k).handle L M) first_is (replaced.confined P r u L lead position led old slot own new it);
       }
         where
@@ -148,26 +137,25 @@ module _ (P : Platform) (r : Region) (u : List ℕ) (L : Labels) (lead : Label) 
               ∙ sym (ap (option_map (renamed_space name)) ((λ i. option_map_or (λ q. space L q u) (found i) None) ∙ showed))
 
   -- One label is marked.
-  module _ (old slot : ℕ) (own : Label) (within : old < (L x.handle).slots) (is : (L x.handle).at old ≡ Some own) (has_own : has u own ≡ true) (only : HasOnly u (L x.handle) own)
-      (slot_within : slot < (L x.handle).slots) (free : (L x.handle).at slot ≡ None) where
+  module _ (old slot : ℕ) (own : Label) (places : HasPlaces r u L position old slot own) where
     abbrev pub marked_new : Label
     marked_new = at_slot slot (marked_label own)
 
     pub marks_it : IsReplacedBy r u L position old slot own marked_new
-    marks_it = it own.name old slot own within is has_own only slot_within free
+    marks_it = it own.name old slot own places
 
     abbrev pub N : Labels
     N = replaced.M P r u L lead position led old slot own marked_new marks_it
 
     marked_stays : belongs r x.handle marked_new ≡ true
-    marked_stays = stays own.name old slot own within is has_own only slot_within free
+    marked_stays = stays own.name old slot own places
 
     marked_at : (now : Label) → offset_in r now ≡ offset_in r lead → leading_label r (labels_with u N) ≡ Some now → sizes_agree r now (labels_with u N) ≡ true → table P N ≡ table P L → IsMarkedAt P r u position L N
     marked_at now offset leads_now sizes same = record {
       same_table = same;
       same_marks = replaced.marks P r u L lead position led old slot own marked_new marks_it marked_stays now offset leads_now sizes;
       stands = replaced.open_after P r u L lead position led old slot own marked_new marks_it marked_stays now offset leads_now sizes;
-      mark = ap (option_map without_slot) (replaced.only_new P r u L lead position led old slot own marked_new marks_it).first_is ∙ sym (ap (option_map marked) only.first_is);
+      mark = ap (option_map without_slot) (replaced.only_new P r u L lead position led old slot own marked_new marks_it).first_is ∙ sym (ap (option_map marked) places.only.first_is);
       confined = replaced.confined P r u L lead position led old slot own marked_new marks_it;
     }
 
@@ -175,7 +163,7 @@ module _ (P : Platform) (r : Region) (u : List ℕ) (L : Labels) (lead : Label) 
     mark-behind behind =
         let still = replaced.leads_still P r u L lead position led old slot own marked_new marks_it behind in
         let sizes = replaced.sizes_still P r u L lead position led old slot own marked_new marks_it behind
-        (λ all. size-of u L x lead own only (list_all-at (has_size lead (labels_with u L)) r.members x all (replaced.x_in P r u L lead position led))) in
+        (λ all. size-of u L x lead own places.only (list_all-at (has_size lead (labels_with u L)) r.members x all (replaced.x_in P r u L lead position led))) in
         marked_at lead refl still sizes
         (replaced-elsewhere P r u x L N (replaced.replaces P r u L lead position led old slot own marked_new marks_it marked_stays lead refl still sizes) (member_at r 0) (drop 1 r.members)
         (first-is r.members (replaced.some_members P r u L lead position led)) (replaced.away_from_first P r u L lead position led old slot own marked_new marks_it behind) led.stands.writable
@@ -183,12 +171,12 @@ module _ (P : Platform) (r : Region) (u : List ℕ) (L : Labels) (lead : Label) 
 
     pub mark-first : position ≡ 0 → IsMarkedAt P r u position L N
     mark-first first_is =
-        let offset = offset_new own.name old slot own within is has_own only slot_within free first_is in
-        let leads_now = leads_new own.name old slot own within is has_own only slot_within free first_is in
-        let sizes = sizes_new own.name old slot own within is has_own only slot_within free first_is in
-        let lead_is = own_is own.name old slot own within is has_own only slot_within free first_is in
-        let same_flags = flags own.name old slot own within is has_own only slot_within free in
-        let shows_still : space N r u ≡ space L r u = shows own.name old slot own within is has_own only slot_within free first_is
+        let offset = offset_new own.name old slot own places first_is in
+        let leads_now = leads_new own.name old slot own places first_is in
+        let sizes = sizes_new own.name old slot own places first_is in
+        let lead_is = own_is own.name old slot own places first_is in
+        let same_flags = flags own.name old slot own places in
+        let shows_still : space N r u ≡ space L r u = shows own.name old slot own places first_is
         ∙ (λ i. Some (space_of r (same_flags i) (at_slot slot (marked_label (lead_is i)))))
-        ∙ sym (showed own.name old slot own within is has_own only slot_within free first_is) in
+        ∙ sym (showed own.name old slot own places first_is) in
         marked_at marked_new offset leads_now sizes (replaced-kept P r u x L N (replaced.replaces P r u L lead position led old slot own marked_new marks_it marked_stays marked_new offset leads_now sizes) shows_still)
