@@ -68,6 +68,21 @@ still-kept ms rs now regions_now together kept kept_regions =
       rooms = rooms-still rs;
     }))
 
+-- A namespace that still stands can still be healed.
+pub can-still : (ms : List LoadedModule) (rs : List RegionLabels) (now : List LoadedModule) (regions_now : List RegionLabels) (region : Region) (u : List ℕ) → CanHeal ms rs region u → StaysTogether ms rs now regions_now
+    → map free_slots now ≡ map free_slots ms → IsOpen (labels_in now) region u → CanHeal now regions_now region u
+can-still ms rs now regions_now region u can stays same_free is_open = record {
+  together = stays.together;
+  region_in = subst (λ (xs : List Region). Contains xs region) (sym stays.same_regions) can.region_in;
+  same_sizes = can.same_sizes;
+  whole = is_open.whole;
+  writable = is_open.writable;
+  free = λ k d lt member.
+      let lt_ms : k < length ms = subst (λ n. k < n) (each-length dimm_of ms now stays.dimms) lt in
+      subst (λ n. 0 < n) (sym (at-place free_slots ms now same_free k d lt))
+      (can.free k d lt_ms (sym (ap (is_member region) (at-place dimm_of ms now stays.dimms k d lt)) ∙ member));
+}
+
 module _ {R : Type 0} {m : Ghosts R} where
   -- without a flip
   pub no-pass : (hs : List ℕ) (ms : List LoadedModule) (rs : List RegionLabels) (rig : R) → IsTogether ms rs → IsPass hs m ms rs rig ms rs rig
@@ -148,27 +163,12 @@ module _ {R : Type 0} {m : Ghosts R} where
     known = second.known;
   }
 
-  -- A namespace that still stands can be healed still.
-  pub can-still : (hs : List ℕ) (ms : List LoadedModule) (rs : List RegionLabels) (old : R) (now : List LoadedModule) (regions_now : List RegionLabels) (new : R) (region : Region) (u : List ℕ) → CanHeal ms rs region u
-      → IsPass hs m ms rs old now regions_now new → IsOpen (labels_in now) region u → CanHeal now regions_now region u
-  can-still hs ms rs old now regions_now new region u can pass is_open = record {
-    together = pass.together.together;
-    region_in = subst (λ (xs : List Region). Contains xs region) (sym pass.together.same_regions) can.region_in;
-    same_sizes = can.same_sizes;
-    whole = is_open.whole;
-    writable = is_open.writable;
-    free = λ k d lt member.
-        let lt_ms : k < length ms = subst (λ n. k < n) (each-length dimm_of ms now pass.together.dimms) lt in
-        subst (λ n. 0 < n) (sym (at-place free_slots ms now pass.same_free k d lt))
-        (can.free k d lt_ms (sym (ap (is_member region) (at-place dimm_of ms now pass.together.dimms k d lt)) ∙ member));
-  }
-
   -- The next turn can be made.
   pub can-turn : (hs : List ℕ) (ms : List LoadedModule) (rs : List RegionLabels) (old : R) (now : List LoadedModule) (regions_now : List RegionLabels) (new : R) (region : Region) (u : List ℕ) (lead : Label) (position end : ℕ)
       → CanHeal ms rs region u → IsPass hs m ms rs old now regions_now new → (P : Platform) (start : Labels) → IsHealedTo P region u lead end start (labels_in now)
       → (position ≡ 0 → end ≡ length region.members) → CanTurn now regions_now region u lead position
   can-turn hs ms rs old now regions_now new region u lead position end can pass P start to last = record {
-    can = can-still hs ms rs old now regions_now new region u can pass to.stands;
+    can = can-still ms rs now regions_now region u can pass.together pass.same_free to.stands;
     leads = to.leads;
     last = λ first other some lt. to.alike other some (let e : end ≡ length region.members = last first in omega (arith, e, lt)) lt;
   }

@@ -23,7 +23,7 @@ loop-position-init g c = record {
 pub mark_at-requires-clause-can : goal.mark_at-requires-clause-can
 mark_at-requires-clause-can g c =
     let before = c.loop-position.invariant in
-    can-still (handles c.args.region.now) c.args.modules.now c.args.regions.now c.args.rig.now c.loop-position.modules c.loop-position.regions c.loop-position.rig c.args.region.now c.args.uuid.now c.requires.can before.pass before.marked.stands
+    can-still c.args.modules.now c.args.regions.now c.loop-position.modules c.loop-position.regions c.args.region.now c.args.uuid.now c.requires.can before.pass.together before.pass.same_free before.marked.stands
 
 pub mark_at-requires-clause-sized : goal.mark_at-requires-clause-sized
 mark_at-requires-clause-sized g c =
