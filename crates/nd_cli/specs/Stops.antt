@@ -19,24 +19,24 @@ use Rattle.sessions.specs.Sessions.{stored_slots}
 use Rattle.view_types.specs.declared.reply.Reply.{Reply}
 use Rattle.view_types.specs.declared.word_fault.WordFault.{WordFault}
 use Rattle.nd_cli.specs.Answers.{DoesAt, labels_at}
-use Rattle.nd_cli.specs.Tasks.{Task, ListLabels, DoLine}
+use Rattle.nd_cli.specs.Tasks.{Task, ListLabels, DoLine, has_module}
 
--- the command may write areas; the others only tell
-abbrev pub may_write : Command → Bool
-may_write (InitLabels dimm) = true
-may_write (Create region size name abstraction sector uuid) = true
-may_write (ListSpaces region) = false
-may_write ListRegions = false
-may_write (ListFree region) = false
-may_write (ListHeld dimm) = false
-may_write (ToModule region spa) = false
-may_write (ToSpa region dimm dpa) = false
-may_write (ToRuns region spa len) = false
+-- the command may write areas; others only tell, or name a module that the platform does not have
+abbrev pub may_write : Platform → Command → Bool
+may_write platform (InitLabels dimm) = has_module platform dimm
+may_write platform (Create region size name abstraction sector uuid) = true
+may_write platform (ListSpaces region) = false
+may_write platform ListRegions = false
+may_write platform (ListFree region) = false
+may_write platform (ListHeld dimm) = false
+may_write platform (ToModule region spa) = false
+may_write platform (ToSpa region dimm dpa) = false
+may_write platform (ToRuns region spa len) = false
 
 -- A command writes the areas of its modules alone, and `init-labels` only one that is Uninit.
 pub record WritesOnly (platform : Platform) (command : Command) (areas now : Areas) : Type 0 where
   pub others : (dimm : ℕ) → is_among (written_by platform command) dimm ≡ false → get now dimm ≡ get areas dimm
-  pub kept : may_write command ≡ false → now ≡ areas
+  pub kept : may_write platform command ≡ false → now ≡ areas
   pub initialised : (dimm : ℕ) → command ≡ InitLabels dimm → area_kind (get areas dimm) ≢ Uninit → now ≡ areas
 
 abbrev pub WritesByLine : Platform → Result (Option Command) WordFault → Areas → Areas → Type 0
@@ -62,7 +62,7 @@ pub record LeavesTable (platform : Platform) (command : Command) (own : List ℕ
     (c : CrashRecord) : Type 0 where
   pub table_is : IsFair c → IsBeforeOrAfter platform (stored_slots platform.modules areas) (labels_at platform areas)
       command own (labels_at platform c.areas)
-  pub kept : may_write command ≡ false → c.areas ≡ areas
+  pub kept : may_write platform command ≡ false → c.areas ≡ areas
   pub initialised : (dimm : ℕ) → command ≡ InitLabels dimm → LeavesInit dimm areas c
 
 abbrev pub LeavesByLine : Platform → Result (Option Command) WordFault → List ℕ → Areas → CrashRecord → Type 0
