@@ -3,13 +3,14 @@ use Rattle.std.proofs.Common.{◌≡◌, ℕ, Bool, true, List, [], Option, refl
 use Rattle.std.proofs.lemmas.List.{append-nil}
 use Rattle.rig_trait.specs.declared.shown.Shown as rigs
 use Rattle.rig_trait.specs.declared.source.Source as sources
+use Rattle.rig_trait.specs.Areas.{Areas}
 use Rattle.rig_trait.specs.Faults.{counted}
 use Rattle.rig_trait.specs.Frames.{Reads, SaysOnly}
 use Rattle.rig_trait.specs.Records.{IsSaying}
 use Rattle.rig_trait.proofs.Frames.{reading}
 use Rattle.rig_trait.proofs.Moments.{and_a_call}
 use Rattle.nd_cli.specs.Outcomes.{ComesTo, ComesUnsaid, Ends, IsEarly, Outcome, Replies, SaysText, Tells, WritesNothing, status_of, text_of}
-use Rattle.nd_cli.specs.Stops.{WritesOnly, named}
+use Rattle.nd_cli.specs.Stops.{Writes}
 use Rattle.nd_cli.specs.Words.{Asked}
 use Rattle.nd_cli.proofs.Answered.{answered_at}
 use Rattle.nd_cli.proofs.Saying.{LeavesSaid-saying, LeavesSaid-silent}
@@ -22,10 +23,10 @@ writes_nothing m old mid new text read status result tells = record {
       tells.stops (λ c says. says.areas_are ∙ (m.now_is mid says.from says.was).0 ∙ read.areas);
 }
 
-module _ {R N : Type 0} (m : rigs.Ghosts R) (n : sources.Ghosts N) (asked : Option Asked) where
+module _ {R N : Type 0} (m : rigs.Ghosts R) (n : sources.Ghosts N) (seed : ℕ) (asked : Option Asked) where
   module _ (old mid new : R) (source_old source_new : N) (outcome : Outcome) where
     -- what is said changes nothing of what a run came to
-    comes_behind : (failed : Bool) → ComesTo m n asked old mid source_old source_new outcome → SaysOnly m mid new failed → ComesTo m n asked old new source_old source_new outcome
+    comes_behind : (failed : Bool) → ComesTo m n seed asked old mid source_old source_new outcome → SaysOnly m mid new failed → ComesTo m n seed asked old new source_old source_new outcome
     comes_behind failed came says = record {
       task = came.task;
       cause = came.cause;
@@ -35,11 +36,11 @@ module _ {R N : Type 0} (m : rigs.Ghosts R) (n : sources.Ghosts N) (asked : Opti
       };
       source = came.source;
       answered = λ told. answered_at m came.task old mid new outcome says.areas (came.answered told);
-      written = λ told. subst (WritesOnly (named came.task) (m.areas old)) (sym says.areas) (came.written told);
+      written = λ told. subst (λ (areas : Areas). Writes came.task (m.areas old) areas) (sym says.areas) (came.written told);
     }
 
-    pub ended : (status : ℕ) → ComesUnsaid m n asked old mid source_old source_new outcome → ¬ (text_of outcome ≡ []) → (IsEarly outcome → Reads m old mid)
-        → Tells m mid new (text_of outcome) (status_of outcome) status → Ends m n asked old new source_old source_new status
+    pub ended : (status : ℕ) → ComesUnsaid m n seed asked old mid source_old source_new outcome → ¬ (text_of outcome ≡ []) → (IsEarly outcome → Reads m old mid)
+        → Tells m mid new (text_of outcome) (status_of outcome) status → Ends m n seed asked old new source_old source_new status
     unfolding comes_behind
     ended status comes some early tells = record {
       outcome = outcome;
@@ -54,7 +55,7 @@ module _ {R N : Type 0} (m : rigs.Ghosts R) (n : sources.Ghosts N) (asked : Opti
     }
 
   -- a blank line and a comment have no reply
-  pub silent : (old new : R) (source_old source_new : N) → ComesUnsaid m n asked old new source_old source_new (Replies true []) → Ends m n asked old new source_old source_new 0
+  pub silent : (old new : R) (source_old source_new : N) → ComesUnsaid m n seed asked old new source_old source_new (Replies true []) → Ends m n seed asked old new source_old source_new 0
   silent old new source_old source_new comes = record {
     outcome = Replies true [];
     came = comes.came;

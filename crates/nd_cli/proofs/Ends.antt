@@ -12,16 +12,17 @@ use Rattle.label_area.specs.declared.blocks.Current.{Current}
 use Rattle.label_listing.specs.Listing.{label_line, last_line, listing, live_labels, loaded_listing}
 use Rattle.report_json.specs.Texts.{IsEnded, is_one_line, reply_text}
 use Rattle.report_json.proofs.Ends as texts
+use Rattle.sessions.specs.Commands.{is_change}
 use Rattle.view_types.specs.declared.reply.Reply as replies
 use Rattle.view_types.specs.declared.reply.Reply.TheVariants as reply
 use Rattle.nd_cli.specs.declared.answers.Answer.{Answer}
 use Rattle.nd_cli.specs.declared.answers.Answer.TheVariants.{Labels, Reply}
 use Rattle.nd_cli.specs.declared.faults.Fault.{Fault}
 use Rattle.nd_cli.specs.declared.faults.Fault.TheVariants.{Words, Nfit, Area, Source, Limit, Memory}
-use Rattle.nd_cli.specs.declared.tasks.Task.{Task}
 use Rattle.nd_cli.specs.Answers.{is_accepted}
-use Rattle.nd_cli.specs.Outcomes.{ComesTo, ComesUnsaid, Ends, IsCause, IsEarly, Replies, Fails, Tells, TellsReply, text_told, list_untold, is_initialised, may_have_written, outcome_of, status_of, text_of}
+use Rattle.nd_cli.specs.Outcomes.{ComesUnsaid, Ends, IsCause, IsEarly, Replies, Fails, Tells, TellsReply, text_told, list_untold, may_have_written, outcome_of, status_of}
 use Rattle.nd_cli.specs.Statuses.{reply_code}
+use Rattle.nd_cli.specs.Tasks.{Task}
 use Rattle.nd_cli.specs.Texts.{fault_line}
 use Rattle.nd_cli.specs.Words.{Asked}
 use Rattle.nd_cli.proofs.Endings.{ended}
@@ -65,13 +66,13 @@ unwritten_early (Err Source) early = refl
 unwritten_early (Err Limit) early = refl
 unwritten_early (Err Memory) early = refl
 
--- a list is no reply of an area that was initialised
-list-unwritten : (r : replies.Reply) → is_one_line r ≡ false → is_initialised r ≡ false
+-- a list is no reply to a change
+list-unwritten : (r : replies.Reply) → is_one_line r ≡ false → is_change r ≡ false
 list-unwritten (reply.Initialised dimm slots) is = absurd cc
-list-unwritten (reply.Created uuid region offset len size spare) is = refl
-list-unwritten (reply.Destroyed uuid) is = refl
-list-unwritten (reply.Renamed uuid name) is = refl
-list-unwritten (reply.Released count) is = refl
+list-unwritten (reply.Created uuid region offset len size spare) is = absurd cc
+list-unwritten (reply.Destroyed uuid) is = absurd cc
+list-unwritten (reply.Renamed uuid name) is = absurd cc
+list-unwritten (reply.Released count) is = absurd cc
 list-unwritten (reply.Namespaces listed) is = refl
 list-unwritten (reply.Regions regions) is = refl
 list-unwritten (reply.Free extents largest) is = refl
@@ -97,13 +98,13 @@ reply_status (reply.Spa spa) = refl
 reply_status (reply.Runs runs) = refl
 reply_status (reply.Refused refusal) = refl
 
-module _ {R N : Type 0} (m : rigs.Ghosts R) (n : sources.Ghosts N) (asked : Option Asked) (old mid new : R) (source_old source_new : N) where
+module _ {R N : Type 0} (m : rigs.Ghosts R) (n : sources.Ghosts N) (seed : ℕ) (asked : Option Asked) (old mid new : R) (source_old source_new : N) where
   -- memory was refused where a list was to be made
-  unmade_cause : (asked : Option Asked) (task : Task) (accepted : Bool) (text : List ℕ) → IsCause n source_old asked task (Replies accepted text) → IsCause n source_old asked task (Fails Memory)
+  unmade_cause : (asked : Option Asked) (task : Task) (accepted : Bool) (text : List ℕ) → IsCause n seed source_old asked task (Replies accepted text) → IsCause n seed source_old asked task (Fails Memory)
   unmade_cause None task accepted text is = absurd (let no : Replies accepted text ≡ Fails Words = is in cc)
   unmade_cause (Some asked) task accepted text is = tt
 
-  unmade : (accepted : Bool) (text : List ℕ) → ComesUnsaid m n asked old mid source_old source_new (Replies accepted text) → ComesUnsaid m n asked old mid source_old source_new (Fails Memory)
+  unmade : (accepted : Bool) (text : List ℕ) → ComesUnsaid m n seed asked old mid source_old source_new (Replies accepted text) → ComesUnsaid m n seed asked old mid source_old source_new (Fails Memory)
   unmade accepted text comes = record {
     came = record {
       task = comes.came.task;
@@ -118,26 +119,26 @@ module _ {R N : Type 0} (m : rigs.Ghosts R) (n : sources.Ghosts N) (asked : Opti
   }
 
   -- the labels of an area are listed, or there was no memory for it
-  pub ends_listed : (area : LoadedArea) (result : ℕ) → ComesUnsaid m n asked old mid source_old source_new (outcome_of (Ok (Labels area)))
-      → Tells m mid new (loaded_listing area) 0 result → Ends m n asked old new source_old source_new result
+  pub ends_listed : (area : LoadedArea) (result : ℕ) → ComesUnsaid m n seed asked old mid source_old source_new (outcome_of (Ok (Labels area)))
+      → Tells m mid new (loaded_listing area) 0 result → Ends m n seed asked old new source_old source_new result
   ends_listed area result comes tells =
-      ended m n asked old mid new source_old source_new (Replies true (loaded_listing area)) result comes
+      ended m n seed asked old mid new source_old source_new (Replies true (loaded_listing area)) result comes
       (listed-some area) (λ early. absurd early) tells
 
-  pub ends_unlisted : (accepted : Bool) (text : List ℕ) (result : ℕ) → ComesUnsaid m n asked old mid source_old source_new (Replies accepted text) → Reads m old mid
-      → Tells m mid new (fault_line Memory) 6 result → Ends m n asked old new source_old source_new result
+  pub ends_unlisted : (accepted : Bool) (text : List ℕ) (result : ℕ) → ComesUnsaid m n seed asked old mid source_old source_new (Replies accepted text) → Reads m old mid
+      → Tells m mid new (fault_line Memory) 6 result → Ends m n seed asked old new source_old source_new result
   ends_unlisted accepted text result comes read tells =
-      ended m n asked old mid new source_old source_new (Fails Memory) result (unmade accepted text comes) (fault-some Memory) (λ early. read) tells
+      ended m n seed asked old mid new source_old source_new (Fails Memory) result (unmade accepted text comes) (fault-some Memory) (λ early. read) tells
 
-  pub ends_reply : (r : replies.Reply) (result : ℕ) → ComesUnsaid m n asked old mid source_old source_new (outcome_of (Ok (Reply (Some r))))
-      → (is_initialised r ≡ false → Reads m old mid) → TellsReply m mid new r result → Ends m n asked old new source_old source_new result
+  pub ends_reply : (r : replies.Reply) (result : ℕ) → ComesUnsaid m n seed asked old mid source_old source_new (outcome_of (Ok (Reply (Some r))))
+      → (is_change r ≡ false → Reads m old mid) → TellsReply m mid new r result → Ends m n seed asked old new source_old source_new result
   ends_reply r result comes unwritten (text_told tells) =
-      ended m n asked old mid new source_old source_new (Replies (is_accepted r) (reply_text r)) result comes (reply-some r) (λ early. absurd early)
+      ended m n seed asked old mid new source_old source_new (Replies (is_accepted r) (reply_text r)) result comes (reply-some r) (λ early. absurd early)
       (subst (λ (s : ℕ). Tells m mid new (reply_text r) s result) (reply_status r) tells)
   ends_reply r result comes unwritten (list_untold is tells) =
       ends_unlisted (is_accepted r) (reply_text r) result comes (unwritten (list-unwritten r is)) tells
 
-  pub ends_fault : (fault : Fault) (result : ℕ) → ComesUnsaid m n asked old mid source_old source_new (Fails fault) → (may_have_written (Err fault) ≡ false → Reads m old mid)
-      → Tells m mid new (fault_line fault) (status_of (Fails fault)) result → Ends m n asked old new source_old source_new result
+  pub ends_fault : (fault : Fault) (result : ℕ) → ComesUnsaid m n seed asked old mid source_old source_new (Fails fault) → (may_have_written (Err fault) ≡ false → Reads m old mid)
+      → Tells m mid new (fault_line fault) (status_of (Fails fault)) result → Ends m n seed asked old new source_old source_new result
   ends_fault fault result comes unwritten tells =
-      ended m n asked old mid new source_old source_new (Fails fault) result comes (fault-some fault) (λ early. unwritten (unwritten_early (Err fault) early)) tells
+      ended m n seed asked old mid new source_old source_new (Fails fault) result comes (fault-some fault) (λ early. unwritten (unwritten_early (Err fault) early)) tells

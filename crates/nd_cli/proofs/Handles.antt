@@ -1,6 +1,6 @@
 -- Numbers below 2^64, and those of them that are handles.
 use Rattle.std.proofs.Common.{◌≡◌, ℕ, ◌^◌, ◌≤◌, ◌<◌, Bool, true, false, Option, Some, None, ltb, refl, sym, arith}
-use Rattle.std.proofs.lemmas.Bool.{cond-true, cond-false, lt-ltb, le-ltb, ltb-false, ltb-true}
+use Rattle.std.proofs.lemmas.Bool.{cond-true, cond-false, lt-ltb, le-ltb, ltb-false}
 use Rattle.cmd_words.specs.Numbers.{below}
 
 pub none_below : (found : Option ℕ) → None ≡ below (2 ^ 64) found → None ≡ below (2 ^ 32) found

@@ -1,4 +1,8 @@
 pub mod Unsaid
+pub mod Behind
+pub mod Steps
+pub mod Applied
+pub mod Lines
 pub mod Requests
 pub mod Answered
 pub mod Refused
@@ -6,4 +10,3 @@ pub mod Endings
 pub mod Saying
 pub mod Ends
 pub mod Handles
-pub mod Shown

@@ -1,31 +1,28 @@
--- The form `labels` on an area that is not Ready, and the replies to `init-labels`.
-use Rattle.std.proofs.Common.{◌≡◌, ◌≢◌, ℕ, true, false, List, Option, Some, None, Ok, Err, length, refl, sym, ap, ◌∙◌, subst}
+-- The form `labels` on an area that is not Ready.
+use Rattle.std.proofs.Common.{◌≡◌, ◌≢◌, ℕ, false, List, Option, Some, None, Err, length, refl, sym, ap, ◌∙◌, subst}
 use Rattle.std.specs.FinMap.{get}
 use Rattle.std.specs.Option.{option_and_then}
 use Rattle.std.specs.Prelude.{IfSome}
 use Rattle.rig_trait.specs.declared.shown.Shown.{Ghosts}
 use Rattle.rig_trait.specs.Areas.{Areas}
-use Rattle.rig_trait.specs.Frames.{FailsAt, IsTold, Reads, WritesTo}
+use Rattle.rig_trait.specs.Frames.{FailsAt, IsTold, Reads}
 use Rattle.index_block.specs.declared.geometry.Geometry.{Geometry}
 use Rattle.index_block.specs.Geometry.{geometry_of}
 use Rattle.module_labels.specs.declared.kind.AreaKind.{AreaKind}
-use Rattle.module_labels.specs.declared.kind.AreaKind.TheVariants.{Ready, Uninit}
+use Rattle.module_labels.specs.declared.kind.AreaKind.TheVariants.{Ready}
 use Rattle.label_area.specs.declared.blocks.Current.{Current}
 use Rattle.label_area.specs.declared.load.AreaFault.{AreaFault}
 use Rattle.label_area.specs.declared.load.AreaFault.TheVariants as load
 use Rattle.label_area.specs.Blocks.{current_block, current_in}
 use Rattle.label_area.specs.Faults.{is_load_failed, load_kind}
-use Rattle.label_area.specs.Inits.{initialised, slots_of}
 use Rattle.label_area.specs.LoadedAreas.{LoadedArea}
 use Rattle.label_area.specs.Loads.{Loads}
 use Rattle.label_area.specs.Modules.{area_kind}
 use Rattle.label_area.proofs.Shown.{ready_is}
 use Rattle.report_json.specs.Refusals.{refusal_line}
-use Rattle.report_json.specs.Texts.{initialised_line}
-use Rattle.nd_cli.specs.declared.tasks.Task.TheVariants.{Labels, Initialise}
-use Rattle.nd_cli.specs.Answers.{init_answer_at, labels_answer, listing_answer, not_ready, refused}
+use Rattle.nd_cli.specs.Answers.{labels_answer, listing_answer, not_ready, refused}
 use Rattle.nd_cli.specs.Outcomes.{Does, Replies}
-use Rattle.nd_cli.proofs.Unsaid.{WritesOnly-init, WritesOnly-same}
+use Rattle.nd_cli.specs.Tasks.{ListLabels}
 
 -- an area that is not Ready has no current block
 current_block-none : (stored : Option (List ℕ)) → area_kind stored ≢ Ready → current_block stored ≡ None
@@ -66,27 +63,12 @@ module _ (dimm : ℕ) (areas : Areas) (kind : AreaKind) (is : area_kind (get are
 
 module _ {R : Type 0} (m : Ghosts R) (dimm : ℕ) (old new : R) where
   pub labels_refused : (fault : AreaFault) (kind : AreaKind) → Some kind ≡ load_kind fault → (IsTold m old → Loads dimm (m.areas old) (Err fault))
-      → FailsAt dimm m old new (is_load_failed {T = LoadedArea} (Err fault)) → Reads m old new → Does m (Labels dimm) old new (Replies false (refusal_line (not_ready dimm kind)))
+      → FailsAt dimm m old new (is_load_failed {T = LoadedArea} (Err fault)) → Reads m old new → Does m (ListLabels dimm) old new (Replies false (refusal_line (not_ready dimm kind)))
   labels_refused fault kind is loaded fails read = record {
     done = tt;
     faults = record { faults = rw (not_failed LoadedArea fault kind is) at fails.faults; names = λ other named. cc };
     answered = λ told.
         let kind_is : area_kind (get (m.areas old) dimm) ≡ kind = subst (λ found. IfSome found (λ k. area_kind (get (m.areas old) dimm) ≡ k)) (sym is) (loaded told).kind_is in
         labels_answer-refused dimm (m.areas old) kind kind_is (is_other fault kind is) ∙ ap (refused (not_ready dimm kind)) (sym read.areas);
-    written = λ told. WritesOnly-same None (m.areas old) (m.areas new) read.areas;
-  }
-
-  pub init_accepted : (slots : ℕ) → FailsAt dimm m old new false
-      → (IsTold m old → (area_kind (get (m.areas old) dimm) ≡ Uninit) × (slots ≡ slots_of (get (m.areas old) dimm)))
-      → (IsTold m old → m.areas new ≡ initialised dimm (m.areas old)) → WritesTo dimm m old new
-      → (IsTold m old → area_kind (get (m.areas old) dimm) ≢ Uninit → m.areas new ≡ m.areas old) → Does m (Initialise dimm) old new (Replies true (initialised_line dimm slots))
-  init_accepted slots fails answer written writes kept = record {
-    done = tt;
-    faults = record { faults = fails.faults; names = λ other named. cc };
-    answered = λ told.
-        let areas = m.areas old in
-        ap (λ kind. init_answer_at kind dimm areas) (answer told).0
-        ∙ ap (λ (n : ℕ). record { accepted = true; text = initialised_line dimm n; areas = initialised dimm areas }) (sym (answer told).1)
-        ∙ ap (λ (now : Areas). record { accepted = true; text = initialised_line dimm slots; areas = now }) (sym (written told));
-    written = λ told. WritesOnly-init dimm (m.areas old) (m.areas new) (writes.others told) (kept told);
+    written = λ told. read.areas;
   }

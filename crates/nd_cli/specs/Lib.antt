@@ -1,5 +1,6 @@
 pub mod Words
 pub mod Tasks
+pub mod Uuids
 pub mod Texts
 pub mod Statuses
 pub mod Answers

@@ -6,29 +6,32 @@ use Rattle.rig_trait.specs.Faults.{counted}
 use Rattle.rig_trait.specs.Frames.{IsTold, LeavesOnly, SayLeaves, SaysNothing, SaysOnly}
 use Rattle.rig_trait.specs.Sources.{Draws, TellsLeft}
 use Rattle.cmd_words.specs.Lines.{command_in}
-use Rattle.label_sets.specs.declared.load.SetFault.{SetFault}
-use Rattle.label_sets.specs.declared.load.SetFault.TheVariants as sets
-use Rattle.module_labels.specs.Labels as labels
-use Rattle.namespace_core.specs.declared.lists.Query.{Query}
-use Rattle.namespace_core.specs.Lists.{IsShown}
+use Rattle.cmd_words.specs.declared.commands.Command.{Command}
+use Rattle.label_table.specs.Tables.{State}
+use Rattle.module_labels.specs.Labels.{Labels}
 use Rattle.nfit_tables.specs.Limits.{most_bytes}
 use Rattle.nfit_tables.specs.Reading.{table_of}
 use Rattle.region_map.specs.declared.platform.Platform.{Platform}
 use Rattle.region_map.specs.Platforms.{IsSound}
 use Rattle.report_json.specs.Texts.{is_one_line, reply_text}
+use Rattle.sessions.specs.declared.faults.OpenFault.{OpenFault}
+use Rattle.sessions.specs.declared.faults.OpenFault.TheVariants as opens
+use Rattle.sessions.specs.Commands as sessions
+use Rattle.sessions.specs.Commands.{is_change, is_init}
+use Rattle.view_types.specs.declared.refusal.Refusal.TheVariants as refusals
 use Rattle.view_types.specs.declared.reply.Reply as replies
-use Rattle.view_types.specs.declared.reply.Reply.TheVariants.{Initialised}
+use Rattle.view_types.specs.declared.reply.Reply.TheVariants.{Refused}
+use Rattle.view_types.specs.declared.word_fault.WordFault.{WordFault}
 use Rattle.nd_cli.specs.declared.answers.Answer.{Answer}
 use Rattle.nd_cli.specs.declared.answers.Answer.TheVariants as answers
 use Rattle.nd_cli.specs.declared.faults.Fault.{Fault}
 use Rattle.nd_cli.specs.declared.faults.Fault.TheVariants.{Words, Nfit, Area, Source, Limit, Memory}
-use Rattle.nd_cli.specs.declared.tasks.Task.{Task}
-use Rattle.nd_cli.specs.declared.tasks.Task.TheVariants.{Labels, Reply, Initialise, Show}
 use Rattle.nd_cli.specs.Answers.{IsAnswerTo, is_accepted, is_accepted_if, text_if}
 use Rattle.nd_cli.specs.Statuses.{reply_code}
-use Rattle.nd_cli.specs.Stops.{IsLeft, LeftUnsaid, WritesOnly, named}
+use Rattle.nd_cli.specs.Stops.{IsLeft, LeftUnsaid, Writes}
 use Rattle.nd_cli.specs.Tables.{IsAccepted, IsPlatformIn, is_of_source}
-use Rattle.nd_cli.specs.Tasks.{IsLineTask, has_module}
+use Rattle.nd_cli.specs.Tasks.{Task, ListLabels, DoLine, has_module}
+use Rattle.nd_cli.specs.Uuids.{own_uuid}
 use Rattle.nd_cli.specs.Texts.{fault_line}
 use Rattle.label_listing.specs.Listing.{loaded_listing}
 use Rattle.nd_cli.specs.Words.{Asked, LabelsOf, Line}
@@ -43,10 +46,10 @@ outcome_of (Ok (answers.Labels area)) = Replies true (loaded_listing area)
 outcome_of (Ok (answers.Reply reply)) = Replies (is_accepted_if reply) (text_if reply)
 outcome_of (Err fault) = Fails fault
 
--- why the state of a platform's modules is not read
-abbrev pub fault_by : SetFault → Fault
-fault_by (sets.Failed dimm) = Area dimm
-fault_by sets.Memory = Memory
+-- why a session cannot be had
+abbrev pub fault_by : OpenFault → Fault
+fault_by (opens.Failed dimm) = Area dimm
+fault_by opens.Memory = Memory
 
 abbrev pub fault_status : Fault → ℕ
 fault_status Words = 2
@@ -82,26 +85,34 @@ is_source_fault (Fails fault) = is_of_source fault
 
 -- the area of a module is asked for something
 abbrev pub AsksModule : Task → ℕ → Type 0
-AsksModule (Labels asked) dimm = asked ≡ dimm
-AsksModule (Reply reply) dimm = ⊥
-AsksModule (Initialise asked) dimm = asked ≡ dimm
-AsksModule (Show platform query) dimm = has_module platform dimm ≡ true
+AsksModule (ListLabels asked) dimm = asked ≡ dimm
+AsksModule (DoLine platform line own) dimm = has_module platform dimm ≡ true
 
--- what is asked of the state is shown of some labels
-pub record ShowsSome (platform : Platform) (query : Query) (accepted : Bool) (text : List ℕ) : Type 0 where
-  pub labels : labels.Labels
+-- The reply to a command, whether the rig tells anything or not. It is that of its step from some state; `init-labels`
+-- looks at the area anew.
+pub record HasReply (platform : Platform) (command : Command) (own : List ℕ) (accepted : Bool)
+    (text : List ℕ) : Type 0 where
   pub reply : replies.Reply
-  pub shown : IsShown platform labels query reply
+  pub slots : ℕ → ℕ
+  pub labels : Labels
+  pub after : State
+  pub does : is_init command ≡ false → sessions.Does platform slots labels command own reply after
   pub accepted_is : accepted ≡ is_accepted reply
   pub text_is : text ≡ reply_text reply
 
--- A task that asks no area for anything has the same reply at every rig. What is shown of the state is shown of some
--- labels also where the rig tells nothing.
+-- this reply, or none
+abbrev pub IsText : Option replies.Reply → Bool → List ℕ → Type 0
+IsText reply accepted text = (accepted ≡ is_accepted_if reply) × (text ≡ text_if reply)
+
+-- A blank line and a comment have no reply, and one with a fault is refused.
+abbrev pub IsLineReply : Platform → Result (Option Command) WordFault → List ℕ → Bool → List ℕ → Type 0
+IsLineReply platform (Ok (Some command)) own accepted text = HasReply platform command own accepted text
+IsLineReply platform (Ok None) own accepted text = IsText None accepted text
+IsLineReply platform (Err fault) own accepted text = IsText (Some (Refused (refusals.Words fault))) accepted text
+
 abbrev pub IsReply : Task → Bool → List ℕ → Type 0
-IsReply (Labels dimm) accepted text = Unit {0}
-IsReply (Reply reply) accepted text = (accepted ≡ is_accepted_if reply) × (text ≡ text_if reply)
-IsReply (Initialise dimm) accepted text = Unit {0}
-IsReply (Show platform query) accepted text = ShowsSome platform query accepted text
+IsReply (ListLabels dimm) accepted text = Unit {0}
+IsReply (DoLine platform line own) accepted text = IsLineReply platform line own accepted text
 
 -- What a task may come to, at every rig; nothing tells why memory was refused.
 abbrev pub IsDone : Task → Outcome → Type 0
@@ -128,7 +139,7 @@ pub record Does {R : Type 0} (m : rigs.Ghosts R) (task : Task) (old new : R) (ou
   pub done : IsDone task outcome
   pub faults : FaultsAre m old new outcome
   pub answered : IsTold m old → IsAnswered m task old new outcome
-  pub written : IsTold m old → WritesOnly (named task) (m.areas old) (m.areas new)
+  pub written : IsTold m old → Writes task (m.areas old) (m.areas new)
 
 -- the request is a line, which is done on a platform whose NFIT is read first
 abbrev pub NeedsNfit : Option Asked → Type 0
@@ -136,17 +147,17 @@ NeedsNfit None = ⊥
 NeedsNfit (Some (LabelsOf dimm)) = ⊥
 NeedsNfit (Some (Line bytes)) = Unit {0}
 
-module _ {N : Type 0} (n : sources.Ghosts N) (source : N) where
-  -- a line is done on a sound platform: that of the NFIT, where the source tells it
+module _ {N : Type 0} (n : sources.Ghosts N) (seed : ℕ) (source : N) where
+  -- A line is done on a sound platform: that of the NFIT, where the source tells it. It is the first line.
   pub record IsOnPlatform (bytes : List ℕ) (task : Task) : Type 0 where
     pub platform : Platform
     pub sound : IsSound platform
     pub read : TellsLeft n source → IsPlatformIn (n.left source) platform
-    pub asked : IsLineTask platform (command_in bytes) task
+    pub task_is : task ≡ DoLine platform (command_in bytes) (own_uuid seed 1)
 
   -- the task that the words ask for
   abbrev pub IsTaskOf : Asked → Task → Type 0
-  IsTaskOf (LabelsOf dimm) task = task ≡ Labels dimm
+  IsTaskOf (LabelsOf dimm) task = task ≡ ListLabels dimm
   IsTaskOf (Line bytes) task = IsOnPlatform bytes task
 
   -- Why a run comes to this, at every rig and source.
@@ -161,13 +172,13 @@ module _ {N : Type 0} (n : sources.Ghosts N) (source : N) where
   IsCause (Some asked) task (Fails Memory) = Unit {0}
 
 -- A run comes to a reply or a fault. No call failed but the one that is the fault.
-pub record ComesTo {R N : Type 0} (m : rigs.Ghosts R) (n : sources.Ghosts N) (asked : Option Asked) (old new : R) (source_old source_new : N) (outcome : Outcome) : Type 0 where
+pub record ComesTo {R N : Type 0} (m : rigs.Ghosts R) (n : sources.Ghosts N) (seed : ℕ) (asked : Option Asked) (old new : R) (source_old source_new : N) (outcome : Outcome) : Type 0 where
   pub task : Task
-  pub cause : IsCause n source_old asked task outcome
+  pub cause : IsCause n seed source_old asked task outcome
   pub faults : FaultsAre m old new outcome
   pub source : Draws n source_old source_new (is_source_fault outcome)
   pub answered : IsTold m old → IsAnswered m task old new outcome
-  pub written : IsTold m old → WritesOnly (named task) (m.areas old) (m.areas new)
+  pub written : IsTold m old → Writes task (m.areas old) (m.areas new)
 
 -- A fault other than one at an area ends a run before anything is written.
 abbrev pub IsEarly : Outcome → Type 0
@@ -179,15 +190,11 @@ IsEarly (Fails Source) = Unit {0}
 IsEarly (Fails Limit) = Unit {0}
 IsEarly (Fails Memory) = Unit {0}
 
-abbrev pub is_initialised : replies.Reply → Bool
-is_initialised (Initialised dimm slots) = true
-is_initialised _ = false
-
 -- an area may have been written
 abbrev pub may_have_written : Result Answer Fault → Bool
 may_have_written (Ok (answers.Labels area)) = false
 may_have_written (Ok (answers.Reply None)) = false
-may_have_written (Ok (answers.Reply (Some reply))) = is_initialised reply
+may_have_written (Ok (answers.Reply (Some reply))) = is_change reply
 may_have_written (Err fault) = is_area_fault (Fails fault)
 
 -- nothing was written, and a stop at any moment leaves all areas as they were
@@ -220,24 +227,24 @@ pub data TellsReply {R : Type 0} (m : rigs.Ghosts R) (old new : R) (reply : repl
   list_untold : is_one_line reply ≡ false → Tells m old new (fault_line Memory) 6 result → TellsReply m old new reply result
 
 -- what a stop leaves of a task, before anything is said
-abbrev pub LeavesUnsaid : {R : Type 0} → rigs.Ghosts R → Option ℕ → R → R → Type 0
-LeavesUnsaid m named old new = IsTold m old → LeavesOnly m old new (LeftUnsaid named (m.areas old) (m.said old))
+abbrev pub LeavesUnsaid : {R : Type 0} → rigs.Ghosts R → Task → R → R → Type 0
+LeavesUnsaid m task old new = IsTold m old → LeavesOnly m old new (LeftUnsaid task (m.areas old) (m.said old))
 
 -- what a stop leaves of a run at any moment
-abbrev pub LeavesSaid : {R : Type 0} → rigs.Ghosts R → Option ℕ → R → R → Type 0
-LeavesSaid m named old new = IsTold m old → LeavesOnly m old new (IsLeft named (m.areas old) (m.said old))
+abbrev pub LeavesSaid : {R : Type 0} → rigs.Ghosts R → Task → R → R → Type 0
+LeavesSaid m task old new = IsTold m old → LeavesOnly m old new (IsLeft task (m.areas old) (m.said old))
 
 -- A run comes to a reply or a fault, and has said nothing.
-pub record ComesUnsaid {R N : Type 0} (m : rigs.Ghosts R) (n : sources.Ghosts N) (asked : Option Asked) (old new : R) (source_old source_new : N) (outcome : Outcome) : Type 0 where
-  pub came : ComesTo m n asked old new source_old source_new outcome
+pub record ComesUnsaid {R N : Type 0} (m : rigs.Ghosts R) (n : sources.Ghosts N) (seed : ℕ) (asked : Option Asked) (old new : R) (source_old source_new : N) (outcome : Outcome) : Type 0 where
+  pub came : ComesTo m n seed asked old new source_old source_new outcome
   pub nothing : SaysNothing m old new
-  pub any_moment : LeavesUnsaid m (named came.task) old new
+  pub any_moment : LeavesUnsaid m came.task old new
 
 -- How a run ends: with what it came to, of which all was said, or a front. No call failed but its one fault, and the
 -- `say` of a text that was not said whole.
-pub record Ends {R N : Type 0} (m : rigs.Ghosts R) (n : sources.Ghosts N) (asked : Option Asked) (old new : R) (source_old source_new : N) (status : ℕ) : Type 0 where
+pub record Ends {R N : Type 0} (m : rigs.Ghosts R) (n : sources.Ghosts N) (seed : ℕ) (asked : Option Asked) (old new : R) (source_old source_new : N) (status : ℕ) : Type 0 where
   pub outcome : Outcome
-  pub came : ComesTo m n asked old new source_old source_new outcome
+  pub came : ComesTo m n seed asked old new source_old source_new outcome
   pub is_said : Bool
   pub status_is : status ≡ (if is_said then status_of outcome else 7)
   pub said : IsTold m old → SaysText is_said (text_of outcome) (m.said old) (m.said new)
@@ -245,7 +252,7 @@ pub record Ends {R N : Type 0} (m : rigs.Ghosts R) (n : sources.Ghosts N) (asked
   -- where there is no text, nothing is said that could fail
   pub silent : text_of outcome ≡ [] → is_said ≡ true
   pub early : IsEarly outcome → WritesNothing m old new
-  pub any_moment : LeavesSaid m (named came.task) old new
+  pub any_moment : LeavesSaid m came.task old new
 
 -- the NFIT that a request needs is not accepted, and the source tells it
 pub record RefusesNfit {N : Type 0} (n : sources.Ghosts N) (asked : Option Asked) (source : N) : Type 0 where

@@ -1,7 +1,7 @@
 -- The words of a command line, and the form that they are.
-use Rattle.std.specs.Prelude.{ℕ, ◌^◌, ◌&&◌, Bool, List, [], ◌∷◌, ◌++◌, Option, Some, None, codes, drop, false, if◌then◌else◌, length, nat_eq, nat_le, nat_lt, not, slice_get, unwrap_or, String}
+use Rattle.std.specs.Prelude.{ℕ, ◌^◌, ◌&&◌, Bool, List, [], ◌∷◌, ◌++◌, Option, Some, None, codes, drop, false, if◌then◌else◌, nat_eq, not, slice_get, unwrap_or, String}
 use Rattle.std.specs.declared.alloc.Global.{Global}
-use Rattle.std.specs.List.{after_first, before_first, join_by, list_all, list_any, starts_with}
+use Rattle.std.specs.List.{after_first, before_first, join_by, list_any, starts_with}
 use Rattle.std.specs.Option.{option_map}
 use Rattle.std.specs.Str.{bytes_eq}
 use Rattle.cmd_words.specs.Numbers.{below, number}

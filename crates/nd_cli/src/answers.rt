@@ -1,7 +1,7 @@
 //! What a run answers where nothing fails.
 
 ghost use Rattle.std.specs.Prelude.{◌≡◌};
-ghost use Rattle.nd_cli.specs.Answers.{init_refusal, is_accepted, not_ready, state_of};
+ghost use Rattle.nd_cli.specs.Answers.{not_ready, state_of};
 ghost use Rattle.nd_cli.specs.Statuses.{code_of, reply_code};
 
 use crate::statuses;
@@ -27,17 +27,6 @@ pub fn not_ready(dimm: u32, kind: AreaKind) -> Refusal
             dimm,
             state: state_of(kind),
         },
-    }
-}
-
-/// Why an area of a kind other than Uninit is not initialised.
-pub fn init_refusal(dimm: u32, kind: AreaKind) -> Refusal
-    ensures { result ≡ init_refusal dimm kind }
-{
-    if kind.is_ready() {
-        Refusal::AlreadyReady { dimm }
-    } else {
-        not_ready(dimm, kind)
     }
 }
 

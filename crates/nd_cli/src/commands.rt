@@ -1,43 +1,27 @@
-//! The tasks as they are done.
+//! The requests as they are done, up to their replies.
 
-ghost use Rattle.std.specs.Prelude.{◌≡◌, false};
-ghost use Rattle.rig_trait.specs.Frames.{Reads, SaysNothing};
-ghost use Rattle.nd_cli.specs.declared.tasks.Task.TheVariants.{Labels, Initialise, Show};
-ghost use Rattle.nd_cli.specs.Outcomes.{Does, LeavesUnsaid, fault_by, may_have_written, outcome_of};
-ghost use Rattle.nd_cli.specs.Stops.{named};
-ghost use Rattle.nd_cli.specs.Tasks.{IsSoundTask};
+ghost use Rattle.std.specs.Prelude.{◌≡◌, Some, Ok, false};
+ghost use Rattle.cmd_words.specs.Lines.{command_in};
 ghost use Rattle.region_map.specs.Platforms.{IsSound};
+ghost use Rattle.rig_trait.specs.Frames.{IsTold, Reads, SaysNothing};
+ghost use Rattle.sessions.specs.Sessions.{IsCurrent};
+ghost use Rattle.nd_cli.specs.Outcomes.{Does, LeavesUnsaid, may_have_written, outcome_of};
+ghost use Rattle.nd_cli.specs.Tasks.{ListLabels, DoLine};
 
-use crate::answers::{Answer, init_refusal, not_ready};
-use crate::faults::Fault;
-use crate::tasks::Task;
+use crate::answers::{Answer, not_ready};
+use crate::faults::{Fault, start_fault};
+use cmd_words::{Command, read_line};
 use label_area::{Area, AreaFault};
-use label_sets::{SetFault, read_state};
-use namespace_core::{Query, show};
 use region_map::Platform;
 use rig_trait::Rig;
+use sessions::{RunFault, Session};
 use std::alloc::Global;
-use view_types::Reply;
-
-/// Does a task, up to its reply.
-pub fn do_task<R: Rig>(alloc: Global, rig: &mut R, task: Task) -> Result<Answer, Fault>
-    requires { IsSoundTask task }
-    ensures does { Does R.Shown task rig.old rig.new (outcome_of result) }
-    ensures any_moment { LeavesUnsaid R.Shown (named task) rig.old rig.new }
-    ensures unwritten { may_have_written result ≡ false → Reads R.Shown rig.old rig.new }
-    ensures says_nothing { SaysNothing R.Shown rig.old rig.new }
-{
-    match task {
-        Task::Labels { dimm } => labels(alloc, rig, dimm),
-        Task::Reply(reply) => Ok(Answer::Reply(reply)),
-        Task::Initialise { dimm } => init_labels(rig, dimm),
-        Task::Show { platform, query } => show_state(alloc, rig, &platform, query),
-    }
-}
+use uuid::Uuid;
+use view_types::{Refusal, Reply};
 
 /// Loads the area of a module, whose labels are listed, or refuses to where it is not Ready.
-fn labels<R: Rig>(alloc: Global, rig: &mut R, dimm: u32) -> Result<Answer, Fault>
-    ensures does { Does R.Shown (Labels dimm) rig.old rig.new (outcome_of result) }
+pub fn labels<R: Rig>(alloc: Global, rig: &mut R, dimm: u32) -> Result<Answer, Fault>
+    ensures does { Does R.Shown (ListLabels dimm) rig.old rig.new (outcome_of result) }
     ensures reads_only { Reads R.Shown rig.old rig.new }
 {
     let fault = match Area::load(alloc, rig, dimm) {
@@ -51,48 +35,52 @@ fn labels<R: Rig>(alloc: Global, rig: &mut R, dimm: u32) -> Result<Answer, Fault
     }
 }
 
-/// Initialises the area of a module, which has to be Uninit. It takes no memory.
-fn init_labels<R: Rig>(rig: &mut R, dimm: u32) -> Result<Answer, Fault>
-    ensures does { Does R.Shown (Initialise dimm) rig.old rig.new (outcome_of result) }
-    ensures any_moment { LeavesUnsaid R.Shown (named (Initialise dimm)) rig.old rig.new }
+/// Does what a line says, on a platform whose areas are all read first. `own` is the uuid of a new namespace for which it
+/// gives none. A blank line and a comment have no reply.
+pub fn do_on<R: Rig>(
+    alloc: Global,
+    rig: &mut R,
+    platform: Platform,
+    line: &str,
+    own: Uuid,
+) -> Result<Answer, Fault>
+    requires { IsSound platform }
+    ensures does { Does R.Shown (DoLine platform (command_in line.now) own) rig.old rig.new (outcome_of result) }
+    ensures any_moment { LeavesUnsaid R.Shown (DoLine platform (command_in line.now) own) rig.old rig.new }
     ensures unwritten { may_have_written result ≡ false → Reads R.Shown rig.old rig.new }
     ensures says_nothing { SaysNothing R.Shown rig.old rig.new }
 {
-    let fault = match Area::init(rig, dimm) {
-        Ok(slots) => return Ok(Answer::Reply(Some(Reply::Initialised { dimm, slots }))),
-        Err(fault) => fault,
+    let session = match Session::start(alloc, platform, rig) {
+        Ok(session) => session,
+        Err(fault) => return Err(start_fault(fault)),
     };
-    match fault.kind() {
-        Some(kind) => Ok(Answer::Reply(Some(Reply::Refused(init_refusal(dimm, kind))))),
-        None => Err(Fault::Area { dimm }),
+    match read_line(line.as_bytes()) {
+        Ok(Some(command)) => apply(alloc, rig, session, &command, own),
+        Ok(None) => Ok(Answer::Reply(None)),
+        Err(fault) => Ok(Answer::Reply(Some(Reply::Refused(Refusal::Words(fault))))),
     }
 }
 
-/// Reads the state of a platform's modules, and shows what is asked of it.
-fn show_state<R: Rig>(
+/// Does a command on a session that has just started.
+fn apply<R: Rig>(
     alloc: Global,
     rig: &mut R,
-    platform: &Platform,
-    query: Query,
+    mut session: Session,
+    command: &Command,
+    own: Uuid,
 ) -> Result<Answer, Fault>
-    requires { IsSound platform.now }
-    ensures does { Does R.Shown (Show platform.now query) rig.old rig.new (outcome_of result) }
-    ensures reads_only { Reads R.Shown rig.old rig.new }
+    requires unspent { session.spent ≡ false }
+    requires current { IsTold R.Shown rig.old → IsCurrent R.Shown rig.old session }
+    ensures does { Does R.Shown (DoLine session.platform (Ok (Some command.now)) own) rig.old rig.new
+        (outcome_of result) }
+    ensures any_moment { LeavesUnsaid R.Shown (DoLine session.platform (Ok (Some command.now)) own) rig.old rig.new }
+    ensures unwritten { may_have_written result ≡ false → Reads R.Shown rig.old rig.new }
+    ensures says_nothing { SaysNothing R.Shown rig.old rig.new }
 {
-    let sets = match read_state(alloc, platform, rig) {
-        Ok(sets) => sets,
-        Err(fault) => return Err(fault_by(fault)),
-    };
-    let reply = show(alloc, platform, &sets, query)?;
-    Ok(Answer::Reply(Some(reply)))
-}
-
-/// Why the state of a platform's modules is not read.
-fn fault_by(fault: SetFault) -> Fault
-    ensures { result ≡ fault_by fault }
-{
-    match fault {
-        SetFault::Failed { dimm } => Fault::Area { dimm },
-        SetFault::Memory => Fault::Memory,
+    match session.apply(alloc, rig, command, own) {
+        Ok(reply) => Ok(Answer::Reply(Some(reply))),
+        Err(RunFault::Area { dimm }) => Err(Fault::Area { dimm }),
+        Err(RunFault::Memory) => Err(Fault::Memory),
+        Err(RunFault::Spent) => unreachable!(),
     }
 }

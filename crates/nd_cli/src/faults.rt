@@ -2,11 +2,12 @@
 
 ghost use Rattle.std.specs.Prelude.{◌≡◌};
 ghost use Rattle.nd_cli.specs.declared.faults.Fault.TheVariants.{Memory};
-ghost use Rattle.nd_cli.specs.Outcomes.{fault_status};
+ghost use Rattle.nd_cli.specs.Outcomes.{fault_by, fault_status};
 ghost use Rattle.nd_cli.specs.Statuses.{code_of};
 
 use crate::statuses::Status;
 use nfit_tables::NfitFault;
+use sessions::OpenFault;
 use std::alloc::AllocError;
 
 /// The first fault of a run, which ends it.
@@ -46,5 +47,15 @@ impl From<AllocError> for Fault {
 
     fn from(_: AllocError) -> Fault {
         Fault::Memory
+    }
+}
+
+/// Why a session cannot be had.
+pub fn start_fault(fault: OpenFault) -> Fault
+    ensures { result ≡ fault_by fault }
+{
+    match fault {
+        OpenFault::Failed { dimm } => Fault::Area { dimm },
+        OpenFault::Memory => Fault::Memory,
     }
 }

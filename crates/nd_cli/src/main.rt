@@ -6,9 +6,9 @@ mod commands;
 mod faults;
 mod statuses;
 mod tables;
-mod tasks;
 mod texts;
 mod top;
+mod uuids;
 mod words;
 
 use rig_trait::{FileRig, FileSource};
@@ -17,6 +17,7 @@ use std::alloc::{AllocError, Global};
 use std::env;
 use std::io::ErrorKind;
 use std::process::ExitCode;
+use std::random::RandomSource;
 use thiserror::Error;
 use top::nd_top;
 
@@ -25,6 +26,8 @@ use top::nd_top;
 enum StartFault {
     #[error("the words cannot be had")]
     Words,
+    #[error("the seed cannot be drawn")]
+    Seed,
     #[error("memory was refused")]
     Memory(#[from] AllocError),
 }
@@ -33,6 +36,7 @@ fn main(rt: HostRuntime) -> ExitCode {
     let status = match run(rt) {
         Ok(status) => status,
         Err(StartFault::Words) => 10,
+        Err(StartFault::Seed) => 11,
         Err(StartFault::Memory(_)) => Status::Memory.code(),
     };
     ExitCode::from(status)
@@ -42,10 +46,11 @@ fn main(rt: HostRuntime) -> ExitCode {
 fn run(rt: HostRuntime) -> Result<u8, StartFault> {
     let alloc = rt.alloc();
     let words = words_of(&rt, alloc)?;
+    let seed = draw_seed(&rt)?;
     let dir = words::dir(&words);
     let mut rig = FileRig::new(rt, alloc, dir)?;
     let mut nfit = FileSource::new(rt, alloc, &format!(in alloc; "{dir}/nfit.bin")?)?;
-    Ok(nd_top(alloc, &words, &mut rig, &mut nfit))
+    Ok(nd_top(alloc, &words, &mut rig, &mut nfit, seed))
 }
 
 /// The arguments behind the program's name.
@@ -58,6 +63,15 @@ fn words_of(rt: &HostRuntime, alloc: Global) -> Result<Vec<String>, StartFault> 
         Err(_) => return Err(StartFault::Words),
     };
     Ok(arguments.skip(1).collect(alloc)?)
+}
+
+/// A seed from the random source of the system.
+fn draw_seed(rt: &HostRuntime) -> Result<u128, StartFault> {
+    let mut bytes = [0; 16];
+    match rt.fill_bytes(&mut bytes) {
+        Ok(()) => Ok(u128::from_be_bytes(bytes)),
+        Err(_) => Err(StartFault::Seed),
+    }
 }
 
 #[cfg(test)]

@@ -1,13 +1,13 @@
 //! Runs over areas and NFITs that are built by hand.
 
 use crate::top::nd_top;
-use rig_trait::{MemoryRig, MemorySource, Rig, Source};
+use rig_trait::{Kept, MemoryRig, MemorySource, Rig, Source};
 use std::alloc::{AllocError, Global};
 use std::process::Abort;
 use std::test::Fail;
 use test_areas::{block, nfit, small_area, two_modules};
 
-/// A command line, and what is wanted of its run: the status, and all that is said.
+/// A command line, and what is wanted of its run with the seed 1: the status, and all that is said.
 #[derive(Clone, Copy)]
 struct Row<'a>(&'a str, u8, &'a str);
 
@@ -70,7 +70,7 @@ fn run_with(
     let Row(line, wanted, text) = row;
     let before = rig.said().len();
     let words = words(alloc, line)?;
-    let status = nd_top(alloc, &words, rig, source);
+    let status = nd_top(alloc, &words, rig, source, 1);
     let said = rig.said().get(before..).ok_or("nothing is taken back")?;
     assert_eq!(rt; status, wanted, "{words:?}");
     assert_eq!(rt; said, text.as_bytes(), "{words:?}");
@@ -129,8 +129,10 @@ fn faults(rt: HostRuntime) -> Result<(), Fail> {
     Ok(())
 }
 
-/// The call that fails, how often the rig is read, and what is said of two modules of which one has no area.
-const LISTS: [(u64, u64, Row); 7] = [
+/// The call that fails, how often the rig is read, and what is said of two modules of which one has no area. A line
+/// without a reply is not said.
+const LISTS: [(u64, u64, Row); 8] = [
+    (3, 3, Row("do . # x", 0, "")),
     (9, 3, Row("do . list-regions", 0, REGIONS)),
     (0, 1, Row("do . list", 4, AREA_FAILED)),
     (1, 2, Row("do . list-held dimm=1", 4, AREA_FAILED)),
@@ -192,17 +194,16 @@ fn initialise(rt: HostRuntime) -> Result<(), Fail> {
     Ok(())
 }
 
-/// The call that fails while an area is initialised, the status, and which of the two index blocks are written then. The
-/// calls are the area's size, three reads, two writes, and the reply.
-const STOPS: [(u64, u8, [bool; 2]); 8] = [
-    (0, 4, [false, false]),
+/// The call that fails while an area is initialised, the status, and which of the two index blocks are written then.
+/// Behind the three calls that read the areas they are the area's size, three reads, two writes, and the reply.
+const STOPS: [(u64, u8, [bool; 2]); 7] = [
     (1, 4, [false, false]),
-    (2, 4, [false, false]),
     (3, 4, [false, false]),
-    (4, 4, [false, false]),
-    (5, 4, [true, false]),
-    (6, 7, [true, true]),
-    (7, 0, [true, true]),
+    (6, 4, [false, false]),
+    (7, 4, [false, false]),
+    (8, 4, [true, false]),
+    (9, 7, [true, true]),
+    (10, 0, [true, true]),
 ];
 
 #[test]
@@ -237,31 +238,20 @@ fn faults_of_init(rt: HostRuntime) -> Result<(), Fail> {
     Ok(())
 }
 
-/// A line without a reply is not said: a rig that fails at its first call does not fail.
-#[test]
-fn nothing_said(rt: HostRuntime) -> Result<(), Fail> {
-    let alloc = rt.alloc();
-    let mut rig = MemoryRig::new(alloc, 0)?;
-    rig.fail_at(vec![in alloc; 0]?);
-    run_on(&rt, alloc, &mut rig, Row("do . # x", 0, ""))?;
-    assert_eq!(rt; rig.say_faults(), 0);
-    Ok(())
-}
-
 const SOURCE_FAILED: Row<'static> = Row("do . init-labels dimm=1", 5, "error source nfit\n");
 
 /// The read of the source that fails, the call of the rig that fails, how often the source failed, and what is said.
 /// The NFIT has 280 bytes, which are read by two calls.
 const SOURCES: [(u64, u64, u64, Row); 9] = [
-    (0, 9, 1, SOURCE_FAILED),
-    (1, 9, 1, SOURCE_FAILED),
+    (0, 99, 1, SOURCE_FAILED),
+    (1, 99, 1, SOURCE_FAILED),
     (0, 0, 1, Row("do . init-labels dimm=1", 7, "")),
-    (2, 9, 0, INITIALISE),
+    (2, 99, 0, INITIALISE),
     (2, 0, 0, Row("do . init-labels dimm=1", 4, AREA_FAILED)),
-    (0, 9, 1, Row("do . # x", 5, "error source nfit\n")),
-    (1, 9, 1, Row("do . x", 5, "error source nfit\n")),
-    (0, 9, 0, Row("do .", 2, "error words\n")),
-    (0, 9, 0, Row("labels . 1", 1, UNINIT)),
+    (0, 99, 1, Row("do . # x", 5, "error source nfit\n")),
+    (1, 99, 1, Row("do . x", 5, "error source nfit\n")),
+    (0, 99, 0, Row("do .", 2, "error words\n")),
+    (0, 99, 0, Row("labels . 1", 1, UNINIT)),
 ];
 
 #[test]
@@ -274,6 +264,107 @@ fn faults_of_the_source(rt: HostRuntime) -> Result<(), Fail> {
         let mut source = MemorySource::new(bytes, vec![in alloc; read]?);
         run_with(&rt, alloc, &mut rig, &mut source, row)?;
         assert_eq!(rt; source.faults(), faults);
+    }
+    Ok(())
+}
+
+const CREATE: &str =
+    "do . create-namespace region=1 size=4M name=db0 uuid=0f6b1a52-7c3e-4d28-9a41-5be0c7d2e813";
+
+const CREATED: &str =
+    "ok created uuid=0f6b1a52-7c3e-4d28-9a41-5be0c7d2e813 region=1 offset=0 length=2097152 size=4194304 spare=1\n";
+
+const NAMESPACE: &str =
+    "  namespace uuid=0f6b1a52-7c3e-4d28-9a41-5be0c7d2e813 name=db0 region=1 mode=raw sector=512 offset=0 length=2097152 size=4194304 pending=no read-only=no\nok namespaces=1\n";
+
+const PENDING: &str =
+    "  namespace uuid=0f6b1a52-7c3e-4d28-9a41-5be0c7d2e813 name=db0 region=1 mode=raw sector=512 offset=0 length=2097152 size=4194304 pending=yes read-only=no\nok namespaces=1\n";
+
+const NONE: &str = "ok namespaces=0\n";
+
+/// A rig with two areas of two slots that were initialised, in which 4,096 bytes can be said.
+fn both(alloc: Global) -> Result<MemoryRig, AllocError> {
+    let mut rig = MemoryRig::new(alloc, 4096)?;
+    rig.add(1, initialised(alloc, ZEROS)?)?;
+    rig.add(0x101, initialised(alloc, ZEROS)?)?;
+    Ok(rig)
+}
+
+/// The fifth write of a create fails, behind four calls that read the areas: the first pass was done, so the namespace
+/// stands.
+const CREATES: [Row; 5] = [
+    Row(CREATE, 4, OTHER_FAILED),
+    Row("do . list", 0, PENDING),
+    Row(
+        CREATE,
+        1,
+        "refused name-in-use uuid=0f6b1a52-7c3e-4d28-9a41-5be0c7d2e813\n",
+    ),
+    Row(
+        "do . create-namespace region=1 size=3M",
+        1,
+        "refused bad-size unit=4194304\n",
+    ),
+    Row(
+        "do . create-namespace region=1 size=4M",
+        1,
+        "refused no-slots dimm=0x00000001 spare=1\n",
+    ),
+];
+
+#[test]
+fn creates(rt: HostRuntime) -> Result<(), Fail> {
+    let alloc = rt.alloc();
+    let mut rig = both(alloc)?;
+    rig.fail_at(vec![in alloc; 8]?);
+    for row in CREATES {
+        run_on(&rt, alloc, &mut rig, row)?;
+    }
+    Ok(())
+}
+
+/// A seed, and the uuid of a namespace for which the line gives none, as another library makes it.
+const SEEDS: [(u128, &str); 2] = [
+    (0, "11116e73-1c03-5de6-9130-5f9925ae8ab4"),
+    (1, "c6ae59cd-4100-5d14-850d-f8202b722a98"),
+];
+
+#[test]
+fn seeds(rt: HostRuntime) -> Result<(), Fail> {
+    let alloc = rt.alloc();
+    let words = words(alloc, "do . create-namespace region=1 size=4M")?;
+    for (seed, uuid) in SEEDS {
+        let mut rig = both(alloc)?;
+        let mut source = MemorySource::new(nfit(alloc, &two_modules(alloc)?)?, Vec::new(alloc));
+        assert_eq!(rt; nd_top(alloc, &words, &mut rig, &mut source, seed), 0);
+        assert_eq!(rt; rig.said().get(16..52), Some(uuid.as_bytes()));
+    }
+    Ok(())
+}
+
+/// The call of a create within which all stops, whether its new bytes stand then or zeros, and what is said of the
+/// namespaces. The first pass writes a label and an index block of each module, and so does the second one.
+const CRASHES: [(u64, bool, &str); 5] = [
+    (4, false, NONE),
+    (7, false, NONE),
+    (7, true, PENDING),
+    (9, true, PENDING),
+    (11, true, NAMESPACE),
+];
+
+#[test]
+fn crashes(rt: HostRuntime) -> Result<(), Fail> {
+    let alloc = rt.alloc();
+    let mut rig = both(alloc)?;
+    rig.keep_calls(9, 8192)?;
+    run_on(&rt, alloc, &mut rig, Row(CREATE, 0, CREATED))?;
+    for (call, whole, said) in CRASHES {
+        let Some(Kept::Write { new, .. }) = rig.kept(call) else {
+            return Err("no write".into());
+        };
+        let torn = if whole { new } else { &ZEROS };
+        let mut left = rig.crash(alloc, call, torn)?.ok_or("no record")?;
+        run_on(&rt, alloc, &mut left, Row("do . list", 0, said))?;
     }
     Ok(())
 }
