@@ -11,8 +11,8 @@ const MOST_CHARACTERS: usize = 63;
 /// The bytes that a name is kept in.
 pub(crate) const NAME_BYTES: usize = 64;
 
-/// A name: 0 to 63 letters, digits, dots, underscores and hyphens, with zeros behind them. `None` exactly where the text
-/// is none, or has the form of a uuid.
+/// A name: 0 to 63 letters, digits, dots, underscores and hyphens, with zeros behind them. `None` exactly where the
+/// text is none, or has the form of a uuid.
 pub(crate) fn read_name(text: &str) -> Option<[u8; NAME_BYTES]>
     ensures { result ≡ name text.now }
 {

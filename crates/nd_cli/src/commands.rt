@@ -35,8 +35,8 @@ pub fn labels<R: Rig>(alloc: Global, rig: &mut R, dimm: u32) -> Result<Answer, F
     }
 }
 
-/// Does what a line says, on a platform whose areas are all read first. `own` is the uuid of a new namespace for which it
-/// gives none. A blank line and a comment have no reply.
+/// Does what a line says, on a platform whose areas are all read first. `own` is the uuid of a new namespace for which
+/// it gives none. A blank line and a comment have no reply.
 pub fn do_on<R: Rig>(
     alloc: Global,
     rig: &mut R,

@@ -25,8 +25,9 @@ use view_types::Reply;
 const FIRST_LINE: u64 = 1;
 
 /// Runs the command line that the words are, and says its one text: the reply, or an error line. A blank line and a
-/// comment, as the line of `do`, have no reply. The form `do` reads the NFIT first and then the areas of all its modules,
-/// and `labels` reads no NFIT. A new namespace for which the command gives no uuid gets one that is made from the seed.
+/// comment, as the line of `do`, have no reply. The form `do` reads the NFIT first and then the areas of all its
+/// modules, and `labels` reads no NFIT. A new namespace for which the command gives no uuid gets one that is made from
+/// the seed.
 ///
 /// The status is 0 where the labels of the area were listed or the command was accepted, and 1 where it was refused; 2
 /// where the words are no form, 3 where the NFIT is none, 4 where the rig failed at an area, 5 where the source of the

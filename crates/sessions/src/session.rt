@@ -72,8 +72,8 @@ impl Session {
         }
     }
 
-    /// Does a command, up to its reply: nothing is said. `own` is the uuid of a new namespace for which the command gives
-    /// none. Where the rig tells its areas they have to be those of which the session was made, or which the last
+    /// Does a command, up to its reply: nothing is said. `own` is the uuid of a new namespace for which the command
+    /// gives none. Where the rig tells its areas they have to be those of which the session was made, or which the last
     /// command on it left. But for `init-labels` no area is read.
     ///
     /// Why a command is refused is told by its definition; nothing has changed then, nor after `Memory`. `Area` comes
