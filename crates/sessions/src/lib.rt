@@ -8,3 +8,6 @@ mod session;
 
 pub use faults::{OpenFault, RunFault};
 pub use session::Session;
+
+#[cfg(test)]
+mod tests;
