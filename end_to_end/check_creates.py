@@ -5,6 +5,7 @@ examples, each refusal alone, each with its neighbour in their order, and what a
     python3 end_to_end/check_creates.py [PROGRAM]
 """
 
+import subprocess
 import sys
 import tempfile
 from dataclasses import replace
@@ -13,7 +14,7 @@ from pathlib import Path
 from check_lists import (
     FIRST, NO_SPACES, PAIR, PART, ROOT, SECOND, both, free, image, pair, run, space,
 )
-from platform_images import MIB, ROLABEL, UPDATING, Label, Mapping, Region, area, index_block, nfit, write
+from platform_images import MIB, ROLABEL, SECTOR, UPDATING, Label, Mapping, Region, area, index_block, nfit, write
 
 GIB = 1 << 30
 U1, U2, U3, U4, U5 = (f"0f6b1a52-7c3e-4d28-9a41-5be0c7d2e81{digit}" for digit in "34567")
@@ -110,6 +111,66 @@ def stopped():
     ]
 
 
+def labelled(flips: int, *labels: tuple) -> str:
+    """What `labels` says of an area that was current by its first block, with sequence number 3, before so many flips:
+    the labels with their slots."""
+    lines = ""
+    for slot, label in labels:
+        name = label.name.decode() or "-"
+        lines += (f"  slot={slot} uuid={label.uuid} name={name} flags=0x{label.flags:08x} nlabel={label.nlabel}"
+                  f" position={label.position} cookie=0x{label.cookie:016x} dpa=0x{label.dpa:016x} size={label.size}\n")
+    return f"{lines}ok labels={len(labels)} slots=510 seq={(2 + flips) % 3 + 1} place={flips % 2}\n"
+
+
+def healed():
+    """Pending namespaces of each form: the next create makes their labels agree with that of position 0, by one flip for
+    each that needs it, and none for the others."""
+    first, second = both(U1, 0, 2 * MIB, name=b"db0")
+    marked = replace(first, flags=UPDATING)
+    forms = [
+        (marked, second), (first, replace(second, flags=UPDATING)), (marked, replace(second, flags=UPDATING)),
+        (marked, replace(second, name=b"old")), (marked, replace(second, sector=4096)),
+        (marked, replace(second, abstraction=SECTOR)), (marked, replace(second, size=4 * MIB)),
+    ]
+    made = both(U2, 2 * MIB, 2 * MIB)
+    for labels in forms:
+        after = []
+        for handle, own, whole, new in zip((FIRST, SECOND), labels, (first, second), made):
+            # A label that is replaced goes to slot 1. The new namespace's takes the least free slot, and then the next.
+            flips, slot = (3, 1) if own != whole else (2, 0)
+            after.append((f"labels 0x{handle:x}", 0, labelled(flips, (slot, whole), (2, new))))
+        yield image(*[[label] for label in labels]), [
+            ("list", 0, space(U1, 0, 2 * MIB, "db0", pending="yes") + "ok namespaces=1\n"),
+            (create("4M", U2), 0, created(U2, 2 * MIB, 4 * MIB, 508)),
+            ("list", 0, space(U1, 0, 2 * MIB, "db0") + space(U2, 2 * MIB, 2 * MIB) + "ok namespaces=2\n"),
+            *after,
+        ]
+    numbers = U1, U2, U3
+    three = [both(number, 2 * MIB * place, 2 * MIB, flags=UPDATING) for place, number in enumerate(numbers)]
+    spaces = [(number, 2 * MIB * place, 2 * MIB) for place, number in enumerate(numbers)]
+    yield image(*[list(own) for own in zip(*three)]), [
+        ("list", 0, "".join(space(*own, pending="yes") for own in spaces) + "ok namespaces=3\n"),
+        (create("4M", U4), 0, created(U4, 6 * MIB, 4 * MIB, 506)),
+        ("list", 0, "".join(space(*own) for own in spaces) + space(U4, 6 * MIB, 2 * MIB) + "ok namespaces=4\n"),
+    ]
+
+
+def initialised():
+    """A module of two regions gets an area: a label that another module held is dead then, and both regions are Ready."""
+    lone = Region(2, 0x10_0000_0000, [Mapping(SECOND, 2, 16 * MIB, 0, PART)])
+    table, areas = image([pair(U1, 0, 2 * MIB, 0, flags=UPDATING)], [], (PAIR, lone))
+    uninit = "refused not-ready uninit dimm=0x00000101\n"
+    yield (table, areas | {SECOND: bytes(131072)}), [
+        (create("4M", U2), 1, uninit),
+        (create("4M", U2, region=2), 1, uninit),
+        ("init-labels dimm=0x101", 0, "ok initialised dimm=0x00000101 slots=510\n"),
+        ("list-held dimm=1", 0, "ok held=0 spare=510\n"),
+        (create("4M", U2, region=2), 0, created(U2, 0, 4 * MIB, 509, 2, 1)),
+        (create("4M", U1), 0, created(U1, 0, 4 * MIB, 508)),
+        ("list", 0, space(U1, 0, 2 * MIB) + space(U2, 0, 4 * MIB, region=2, ways=1) + "ok namespaces=2\n"),
+    ]
+
+
 def states():
     """Regions that cannot be used, and those that are not Ready, by each cause."""
     broken = replace(PAIR, length=4 * PART)
@@ -163,7 +224,15 @@ def refused():
     ]
 
 
-IMAGES = [worked, places, stopped, states, refused]
+IMAGES = [worked, places, stopped, healed, initialised, states, refused]
+
+
+def said(program: str, folder: Path, line: str) -> tuple:
+    """What a line says, or, for `labels HANDLE`, the listing of that module."""
+    if not line.startswith("labels "):
+        return run(program, folder, line)
+    done = subprocess.run([program, "labels", str(folder), line.split()[1]], capture_output=True, timeout=60)
+    return done.returncode, done.stdout.decode()
 
 
 def seeds(program: str, folder: Path) -> bool:
@@ -184,9 +253,9 @@ def main() -> int:
                 for line, status, text in lines:
                     rows += 1
                     before = {path.name: path.read_bytes() for path in folder.iterdir()}
-                    answer = run(program, folder, line)
+                    answer = said(program, folder, line)
                     kept = before == {path.name: path.read_bytes() for path in folder.iterdir()}
-                    if answer != (status, text) or kept != (not text.startswith("ok created")):
+                    if answer != (status, text) or kept != (not text.startswith(("ok created", "ok initialised"))):
                         wrong += 1
                         print(f"{folder.name}: {line}\n  expected {status} {text!r:.2000}\n  answered {answer}, kept: {kept}")
         rows += 1
