@@ -4,7 +4,7 @@ ghost use Rattle.std.specs.Prelude.{◌≡◌, ◌↔◌, IfErr, IfOk, OnOk, fal
 ghost use Rattle.std.specs.List.{All};
 ghost use Rattle.rig_trait.specs.Frames.{IsTold, LeavesOnly, Reads};
 ghost use Rattle.region_map.specs.Platforms.{IsSound};
-ghost use Rattle.region_sets.specs.Modules.{size_in};
+ghost use Rattle.region_sets.specs.Modules.{dimm_of, size_in};
 ghost use Rattle.module_flips.specs.Flips.{IsSizedIn};
 ghost use Rattle.module_flips.specs.Stops.{LeftIn, WritesAmong};
 ghost use Rattle.sessions.specs.Commands.{Does, HasAreas, IsBeforeOrAfter, LeavesArea, SaysIfKnown, is_init, may_change, written_by};
@@ -115,6 +115,7 @@ impl Session {
         ensures spent { IsSpent result ↔ (self.old.spent ≡ true) }
         ensures spends { self.new.spent ≡ spent_after self.old.spent result }
         ensures platform { self.new.platform ≡ self.old.platform }
+        ensures dimms { map dimm_of self.new.sets.modules ≡ map dimm_of self.old.sets.modules }
         ensures sizes { map size_in self.new.sets.modules ≡ map size_in self.old.sets.modules }
         ensures reads { is_init command.now ≡ false → R.reads rig.new ≡ R.reads rig.old }
     {

@@ -665,32 +665,41 @@ const ROWS: [Row; 6] = [
 ];
 
 /// The create of a row.
-fn created(
-    rt: &impl Abort,
-    alloc: Global,
-    setting: &Setting,
-    (used, earlier, before, after): Row,
-) -> Result<Done, Fail> {
+fn created(rt: &impl Abort, alloc: Global, setting: &Setting, row: &Row) -> Result<Done, Fail> {
+    let (used, earlier, before, after) = *row;
     let ways = setting.ways;
     let rig = left_rig(alloc, setting, used, earlier)?;
     let done = Done::of(alloc, setting, rig, &create(ways, LATER))?;
-    assert!(rt; tell(&done.before, ways, before), "{ways} ways");
-    assert!(rt; tell(&done.after, ways, after), "{ways} ways");
-    assert!(rt; tells_last(&done.reply, ways, after), "{ways} ways");
+    assert!(rt; is_made(&done, ways, before, after), "{ways} ways");
     Ok(done)
+}
+
+/// What is told of a create, before it, by it and after it.
+fn is_made(done: &Done, ways: u16, before: Spaces, after: Spaces) -> bool {
+    tell(&done.before, ways, before)
+        && tells_last(&done.reply, ways, after)
+        && tell(&done.after, ways, after)
 }
 
 #[test]
 fn stops_of_creates(rt: HostRuntime) -> Result<(), Fail> {
-    let alloc = rt.alloc();
     for ways in WAYS {
-        let setting = Setting::of(alloc, ways)?;
-        for row in ROWS {
-            let done = created(&rt, alloc, &setting, row)?;
-            done.stops(&rt, alloc, &setting, 2 * u64::from(ways))?;
-        }
+        stop_creates(&rt, rt.alloc(), ways)?;
     }
     Ok(())
+}
+
+fn stop_creates(rt: &impl Abort, alloc: Global, ways: u16) -> Result<(), Fail> {
+    let setting = Setting::of(alloc, ways)?;
+    for row in &ROWS {
+        stop_create(rt, alloc, &setting, row)?;
+    }
+    Ok(())
+}
+
+fn stop_create(rt: &impl Abort, alloc: Global, setting: &Setting, row: &Row) -> Result<(), Fail> {
+    let done = created(rt, alloc, setting, row)?;
+    done.stops(rt, alloc, setting, 2 * u64::from(setting.ways))
 }
 
 #[test]
@@ -698,21 +707,35 @@ fn faults_of_creates(rt: HostRuntime) -> Result<(), Fail> {
     let alloc = rt.alloc();
     let mut silent = FileRig::new(rt, alloc, ".")?;
     for ways in WAYS {
-        let setting = Setting::of(alloc, ways)?;
-        let command = create(ways, LATER);
-        for row in ROWS {
-            let done = created(&rt, alloc, &setting, row)?;
-            done.faults(
-                &rt,
-                alloc,
-                &setting,
-                &mut silent,
-                &command,
-                2 * u64::from(ways),
-            )?;
-        }
+        fail_creates(&rt, alloc, &mut silent, ways)?;
     }
     Ok(())
+}
+
+fn fail_creates(
+    rt: &impl Abort,
+    alloc: Global,
+    silent: &mut FileRig,
+    ways: u16,
+) -> Result<(), Fail> {
+    let setting = Setting::of(alloc, ways)?;
+    for row in &ROWS {
+        fail_create(rt, alloc, &setting, silent, row)?;
+    }
+    Ok(())
+}
+
+fn fail_create(
+    rt: &impl Abort,
+    alloc: Global,
+    setting: &Setting,
+    silent: &mut FileRig,
+    row: &Row,
+) -> Result<(), Fail> {
+    let ways = setting.ways;
+    let done = created(rt, alloc, setting, row)?;
+    let behind = 2 * u64::from(ways);
+    done.faults(rt, alloc, setting, silent, &create(ways, LATER), behind)
 }
 
 /// The last module of region 1 is initialised. The others hold the labels of a create that was stopped, and these are
