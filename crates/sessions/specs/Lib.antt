@@ -4,3 +4,4 @@ pub mod Done
 pub mod Sessions
 pub mod Codes
 pub mod Kept
+pub mod Success

@@ -10,6 +10,7 @@ ghost use Rattle.module_flips.specs.Stops.{LeftIn, WritesAmong};
 ghost use Rattle.sessions.specs.Commands.{Does, HasAreas, IsBeforeOrAfter, LeavesArea, SaysIfKnown, is_init, may_change, written_by};
 ghost use Rattle.sessions.specs.Faults.{HasOpenCause, HasRunCause, IsOpenAmong, IsRunAmong, IsRunAt, IsSpent, spent_after};
 ghost use Rattle.sessions.specs.Sessions.{IsCurrent, labels_of, opens, slots_of, state_of};
+ghost use Rattle.sessions.specs.Success.{CanCreate, HasCreated};
 
 use crate::commands::do_command;
 use crate::faults::{OpenFault, RunFault};
@@ -92,6 +93,9 @@ impl Session {
             (Does self.old.platform (slots_of self.old) (labels_of self.old) command.now own reply
             (state_of self.new))) }
         ensures current { IsCurrent R.Shown rig.old self.old → OnOk result (IsCurrent R.Shown rig.new self.new) }
+
+        // Where none of the conditions on a create fails it is accepted, unless an area fails or memory is refused.
+        ensures creates { CanCreate self.old.platform (labels_of self.old) command.now own → IfOk result HasCreated }
 
         // A stop leaves the table before the command, or the one behind it.
         ensures any_moment { IsCurrent R.Shown rig.old self.old

@@ -1,9 +1,15 @@
-use Rattle.std.proofs.Common.{◌≡◌, ap, false, Err, sym, subst, ◌∙◌}
+use Rattle.std.proofs.Common.{◌≡◌, ap, false, Ok, Err, sym, subst, ◌∙◌}
+use Rattle.label_table.specs.Tables.{state}
+use Rattle.label_sets.specs.Init.{slots_at}
+use Rattle.label_sets.specs.Sets.{labels_in}
 use Rattle.sessions.specs.declared.faults.RunFault.{RunFault}
 use Rattle.sessions.specs.Commands.{may_change, written_by}
 use Rattle.sessions.specs.Faults.{IsRunAt}
-use Rattle.sessions.specs.Sessions.{IsCurrent}
+use Rattle.sessions.specs.Sessions.{IsCurrent, StoredSession, labels_of}
+use Rattle.sessions.specs.Success.{CanCreate}
+use Rattle.sessions.specs.Done.{Stand}
 use Rattle.sessions.proofs.Standing.{current-is, kept-session, session-of}
+use Rattle.sessions.proofs.Success.{can-create}
 use Rattle.sessions.proofs.session.Session.apply.Goals as goal
 
 pub returns-in-Ok-clause-current : goal.returns-in-Ok-clause-current
@@ -27,3 +33,11 @@ returns-in-Err-clause-kept g c = λ quiet.
     ∙ kept-session inside.platform inside.sets now command c.of-fault.result quiet kept at
     ∙ ap (session-of inside.platform inside.sets) (sym c.if-self.false)
     ∙ c.self.view_is
+
+pub returns-in-Ok-clause-creates : goal.returns-in-Ok-clause-creates
+returns-in-Ok-clause-creates g c = λ can.
+    let inside = c.self.inside in
+    let here : CanCreate inside.platform (labels_in inside.sets) c.args.command.now c.args.own =
+    subst (λ (session : StoredSession). CanCreate session.platform (labels_of session) c.args.command.now c.args.own) (sym c.self.view_is) can in
+    can-create {E = RunFault} inside.platform (slots_at inside.sets) (labels_in inside.sets) c.args.command.now c.args.own
+    (state inside.platform (labels_in c.do_command.new.sets)) (Stand g.R.Shown c.args.rig.now inside.sets) (Ok c.in-Ok.reply) c.in-Ok.ensures.step here
