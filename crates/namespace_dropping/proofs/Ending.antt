@@ -1,5 +1,6 @@
 -- The labels of a namespace are freed one after the other: by the first it is gone, and the others are dead then.
 use Rattle.std.proofs.Common.{◌≡◌, ◌≢◌, inl, inr, ℕ, zero, suc, ◌+◌, ◌<◌, ◌≤◌, true, false, List, length, Some, refl, sym, ap, subst, ◌∙◌, arith}
+use Rattle.std.specs.Prelude.{◌==◌}
 use Rattle.std.specs.List.{Contains}
 use Rattle.std.proofs.lemmas.Bool.{and_parts, cases_eq, cases_lt}
 use Rattle.label_codec.specs.declared.label.Label.{Label}
@@ -9,11 +10,11 @@ use Rattle.region_map.specs.declared.platform.Platform.{Platform}
 use Rattle.region_map.specs.declared.platform.Region.{Region}
 use Rattle.label_table.specs.Belonging.{IsDisjoint, member_at, no_member}
 use Rattle.label_table.specs.Flips.{AllStale, HasNone, IsConfined, other_labels}
-use Rattle.label_table.specs.Tables.{state, without_namespace}
+use Rattle.label_table.specs.Tables.{is_member, state, without_namespace}
 use Rattle.label_table.specs.Wholes.{all_ready, any_label, is_whole, label_count, labels_with}
 use Rattle.label_table.proofs.Confined.{IsConfined-sym, number-none, ready-any, whole-count, whole-mine}
 use Rattle.label_table.proofs.Leaving.{label_if-some}
-use Rattle.label_table.proofs.ListTests.{Contains-get_or, both, never}
+use Rattle.label_table.proofs.ListTests.{Contains-get_or, both, eq_same, list_any-at, never}
 use Rattle.label_table.proofs.Losing.{freed-state}
 use Rattle.label_table.proofs.Staging.{staged-kept}
 use Rattle.namespace_healing.proofs.Leading.{member-named}
@@ -28,6 +29,7 @@ pub record IsDroppedTo (P : Platform) (r : Region) (u : List ℕ) (end : ℕ) (b
   pub none : (k : ℕ) → k < end → k < length r.members → HasNone u (after (member_at r k).handle)
   pub left : (k : ℕ) → end ≤ k → k < length r.members → after (member_at r k).handle ≡ before (member_at r k).handle
   pub others : (handle : ℕ) → other_labels u (after handle) ≡ other_labels u (before handle)
+  pub elsewhere : (handle : ℕ) → is_member r handle ≡ false → after handle ≡ before handle
 
 -- before the first turn
 pub dropped-start : (P : Platform) (r : Region) (u : List ℕ) (L : Labels) → is_whole L r u ≡ true → IsDroppedTo P r u 0 L L
@@ -38,12 +40,17 @@ dropped-start P r u L whole = record {
   none = λ k below lt. absurd (omega (arith, below));
   left = λ k above lt. refl;
   others = λ handle. refl;
+  elsewhere = λ handle away. refl;
 }
 
 -- at each moment the state is one of two
 pub either-state : (P : Platform) (r : Region) (u : List ℕ) (end : ℕ) (start L : Labels) → IsDroppedTo P r u end start L → IsBeforeOrWithout P r u start L
 either-state P r u zero start L to = inl (ap (state P) (to.start refl))
 either-state P r u (suc end) start L to = inr (to.gone (omega arith))
+
+-- a module without a label of the uuid has none to count
+none-counted : (u : List ℕ) (L : Labels) (h : ℕ) → HasNone u (L h) → label_count (labels_with u L) h ≡ 0
+none-counted u L h none = number-none any_label (of_uuid u (L h)) (λ k l is. let there = label_if-some (has u) ((L h).at k) l is in never (has u l) there.1 (none k l there.0))
 
 module _ (P : Platform) (disjoint : IsDisjoint P) (r : Region) (r_in : Contains P.regions r) (u : List ℕ) (start : Labels) (bounded_start : IsBounded start) (whole : is_whole start r u ≡ true) (stale : AllStale r u start)
     (L : Labels) (bounded : IsBounded L) (i : ℕ) (lt : i < length r.members) (to : IsDroppedTo P r u i start L) where
@@ -71,7 +78,7 @@ module _ (P : Platform) (disjoint : IsDisjoint P) (r : Region) (r_in : Contains 
       let named : member_at r y_in.0 ≡ y = member-named r y y_in in
       elim (cases_lt y_in.0 i) [
         | inl below ↦
-            let zero_there : label_count (labels_with u L) (member_at r y_in.0).handle ≡ 0 = number-none any_label (of_uuid u (L (member_at r y_in.0).handle)) (λ k l is. none-by (member_at r y_in.0).handle (to.none y_in.0 below y_in.1) k l is) in
+            let zero_there : label_count (labels_with u L) (member_at r y_in.0).handle ≡ 0 = none-counted u L (member_at r y_in.0).handle (to.none y_in.0 below y_in.1) in
             subst (λ (m : Member). label_count (labels_with u L) m.handle ≤ 1) named (omega (arith, zero_there))
         | inr above ↦
             let one : label_count (labels_with u start) y.handle ≡ 1 = whole-count r u start y whole y_in in
@@ -79,9 +86,6 @@ module _ (P : Platform) (disjoint : IsDisjoint P) (r : Region) (r_in : Contains 
             let here : label_count (labels_with u L) y.handle ≡ label_count (labels_with u start) y.handle = subst (λ (m : Member). label_count (labels_with u L) m.handle ≡ label_count (labels_with u start) m.handle) named same in
             omega (arith, one, here)
       ]
-    where
-      none-by : (h : ℕ) → HasNone u (L h) → (k : ℕ) (l : Label) → (of_uuid u (L h)).at k ≡ Some l → any_label l ≡ false
-      none-by h none k l is = let there = label_if-some (has u) ((L h).at k) l is in never (has u l) there.1 (none k l there.0)
 
   -- behind the first it is not whole
   not_whole : 0 < i → is_whole L r u ≡ false
@@ -89,13 +93,10 @@ module _ (P : Platform) (disjoint : IsDisjoint P) (r : Region) (r_in : Contains 
     | inl w ↦
         let first_lt : 0 < length r.members = omega (arith, lt) in
         let one : label_count (labels_with u L) (member_at r 0).handle ≡ 1 = whole-count r u L (member_at r 0) w (Contains-get_or r.members 0 no_member first_lt) in
-        let zero_there : label_count (labels_with u L) (member_at r 0).handle ≡ 0 = number-none any_label (of_uuid u (L (member_at r 0).handle)) (λ k l is. none-first (to.none 0 some first_lt) k l is) in
+        let zero_there : label_count (labels_with u L) (member_at r 0).handle ≡ 0 = none-counted u L (member_at r 0).handle (to.none 0 some first_lt) in
         absurd (omega (arith, one, zero_there))
     | inr n ↦ n
   ]
-    where
-      none-first : HasNone u (L (member_at r 0).handle) → (k : ℕ) (l : Label) → (of_uuid u (L (member_at r 0).handle)).at k ≡ Some l → any_label l ≡ false
-      none-first none k l is = let there = label_if-some (has u) ((L (member_at r 0).handle).at k) l is in never (has u l) there.1 (none k l there.0)
 
   module _ (M : Labels) (lost : LosesLabel r u i L M) where
     -- by the first label the namespace is gone
@@ -147,8 +148,15 @@ module _ (P : Platform) (disjoint : IsDisjoint P) (r : Region) (r_in : Contains 
         | inl e ↦ subst (λ h. other_labels u (M h) ≡ other_labels u (L h)) (sym e) lost.confined.rest ∙ to.others handle
         | inr differ ↦ ap (other_labels u) (lost.confined.others handle differ) ∙ to.others handle
       ];
+      elsewhere = λ handle outside. lost.confined.others handle (λ same. absurd (apart (sym outside ∙ ap (is_member r) same ∙ member))) ∙ to.elsewhere handle outside;
     }
       where
+        apart : false ≡ true → ⊥
+        apart e = cc
+
+        member : is_member r z.handle ≡ true
+        member = list_any-at (λ (y : Member). y.handle == z.handle) r.members z z_in (eq_same z.handle z.handle refl)
+
         away : (k : ℕ) → k < length r.members → k ≢ i → M (member_at r k).handle ≡ L (member_at r k).handle
         away k k_lt differ = lost.confined.others (member_at r k).handle (λ same. differ (disjoint.positions r k i r_in k_lt lt same))
 

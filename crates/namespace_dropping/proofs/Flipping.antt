@@ -10,11 +10,12 @@ use Rattle.rig_trait.specs.declared.shown.Shown.{Ghosts}
 use Rattle.rig_trait.specs.Frames.{FailsAt, LeavesOnly, WritesTo}
 use Rattle.rig_trait.proofs.Moments.{weakened}
 use Rattle.label_codec.specs.declared.label.Label.{Label}
-use Rattle.module_labels.specs.Labels.{Labels, Module}
+use Rattle.module_labels.specs.Labels.{Labels, Module, number}
 use Rattle.label_area.specs.Flips.{Standing, is_among}
 use Rattle.region_map.specs.declared.platform.Member.{Member}
 use Rattle.region_map.specs.declared.platform.Region.{Region}
 use Rattle.label_table.specs.Belonging.{IsDisjoint, member_at}
+use Rattle.label_table.specs.Wholes.{any_label}
 use Rattle.label_table.proofs.ListTests.{eq_same}
 use Rattle.region_changes.specs.Changes.{IsChangedAt, dimm_at}
 use Rattle.region_changes.specs.Rooms.{KeepsRegion}
@@ -31,16 +32,16 @@ use Rattle.region_sets.proofs.Seated.{handle-at, length-handles}
 use Rattle.module_flips.specs.Flips.{CanFree, HasLabelsInUse, IsFreedAt, IsOwn, IsReadyArea, is_used_in, without_slots_at}
 use Rattle.module_flips.specs.Stops.{HasAreaCause, IsOneOf, LeftIn, WritesAmong}
 use Rattle.module_flips.specs.declared.flips.AreaFailed.{AreaFailed}
-use Rattle.module_flips.specs.Together.{IsTogether, StaysTogether, free_slots, slots_in}
+use Rattle.module_flips.specs.Together.{IsTogether, StaysTogether, slots_in}
 use Rattle.module_flips.proofs.Freed.{apart-at}
 use Rattle.module_flips.proofs.Together.{same-map, same-regions}
 use Rattle.namespace_healing.specs.declared.places.LabelPlace.{LabelPlace}
 use Rattle.namespace_healing.specs.Healing.{StandsAt}
 use Rattle.namespace_healing.proofs.Bounded.{all-bounded}
 use Rattle.namespace_healing.proofs.Flipping.{no_module}
-use Rattle.namespace_dropping.specs.Dropping.{GivesSlot, IsBeforeOrLost, LosesLabel}
+use Rattle.namespace_dropping.specs.Dropping.{GivesSlot, HasGiven, IsBeforeOrLost, LosesLabel}
 use Rattle.namespace_dropping.proofs.FreeSlots.{one-freed}
-use Rattle.namespace_dropping.proofs.Freeing.{loses}
+use Rattle.namespace_dropping.proofs.Freeing.{loses, one-label-less}
 
 -- an area with a label is Ready
 ready-in : (stored : ModuleArea) (dimm slot : ℕ) (l : Label) → (module_in (record { dimm = dimm; area = stored })).at slot ≡ Some l → IsReadyArea stored
@@ -144,9 +145,13 @@ module _ (ms : List LoadedModule) (rs : List RegionLabels) (region : Region) (u 
   module _ (now : List LoadedModule) (freed : IsFreedAt ms now place.seat (place.slot ∷ [])) where
     pub gives : GivesSlot x.handle ms now
     gives = record {
-      more = λ k d k_lt named. elim (cases_eq k place.seat) [
-        | inl same ↦ subst (λ j. free_slots (get_or now j d) ≡ free_slots (get_or ms j d) + 1) (sym same)
-            (one-freed (get_or ms place.seat d) (get_or now place.seat d) place.slot (subst (λ (N : Module). place.slot < N.slots) (here-is d) at.slot_within) (used d) (freed.standing d))
+      gave = λ k d k_lt named. elim (cases_eq k place.seat) [
+        | inl same ↦
+            let within : place.slot < (module_in (get_or ms place.seat d)).slots = subst (λ (N : Module). place.slot < N.slots) (here-is d) at.slot_within in
+            subst (λ j. HasGiven (get_or ms j d) (get_or now j d)) (sym same) (record {
+              free = one-freed (get_or ms place.seat d) (get_or now place.seat d) place.slot within (used d) (freed.standing d);
+              labels = ap (λ (s : Standing). number any_label s.labels + 1) (freed.standing d) ∙ one-label-less (module_in (get_or ms place.seat d)) place.slot place.label within (stored d);
+            })
         | inr differ ↦ absurd (apart-at ms together.once k place.seat d k_lt at.within differ (named ∙ sym (at.handle d)))
       ];
       others = λ k d k_lt differ. freed.changed.others k d (λ same. differ (ap (λ j. (get_or ms j d).dimm) same ∙ at.handle d));

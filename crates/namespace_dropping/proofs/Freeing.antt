@@ -1,9 +1,10 @@
 -- The only label with a uuid in a module is freed.
-use Rattle.std.proofs.Common.{◌≡◌, inl, inr, ℕ, ◌<◌, Bool, true, false, cond, ◌||◌, eqb, List, [], ◌∷◌, Some, None, refl, sym, ap, subst, ◌∙◌, eq-eqb, eqb-true, arith}
+use Rattle.std.proofs.Common.{◌≡◌, inl, inr, ℕ, ◌+◌, ◌<◌, Bool, true, false, cond, ◌||◌, eqb, List, [], ◌∷◌, Some, None, refl, sym, ap, subst, ◌∙◌, eq-eqb, eqb-true, arith}
+use Rattle.std.proofs.lemmas.Bool.{ne_eqb}
 use Rattle.label_codec.specs.declared.label.Label.{Label}
 use Rattle.module_labels.specs.Flips.{without_slots}
-use Rattle.module_labels.specs.Labels.{IsBounded, Labels, has, of_uuid}
-use Rattle.module_labels.proofs.Counting.{count-one}
+use Rattle.module_labels.specs.Labels.{IsBounded, Labels, Module, has, number, of_uuid, one}
+use Rattle.module_labels.proofs.Counting.{count-change, count-one}
 use Rattle.label_area.specs.Flips.{is_among}
 use Rattle.label_table.specs.Flips.{HasNone, IsConfined}
 use Rattle.label_table.specs.Plain.{HasOnly}
@@ -26,6 +27,14 @@ among-one slot k e = eqb-true k slot (by (eqb k slot) e)
 
 among-same : (slot : ℕ) → is_among (slot ∷ []) slot ≡ true
 among-same slot = ap (λ b. b || false) (eq-eqb slot slot refl)
+
+-- and the module has one less
+pub one-label-less : (area : Module) (slot : ℕ) (own : Label) → slot < area.slots → area.at slot ≡ Some own → number any_label (without_slots (is_among (slot ∷ [])) area) + 1 ≡ number any_label area
+one-label-less area slot own lt is =
+    let changed = count-change any_label any_label area.at (without_slots (is_among (slot ∷ [])) area).at slot area.slots lt (λ k below differ. sym (ap (λ b. one any_label (cond (b || false) None (area.at k))) (ne_eqb k slot differ))) in
+    let was : one any_label (area.at slot) ≡ 1 = ap (one any_label) is in
+    let now : one any_label ((without_slots (is_among (slot ∷ [])) area).at slot) ≡ 0 = ap (λ b. one any_label (cond b None (area.at slot))) (among-same slot) in
+    omega (arith, changed, was, now)
 
 module _ (L : Labels) (bounded : IsBounded L) (u : List ℕ) (m slot : ℕ) (own : Label) (slot_within : slot < (L m).slots) (is : (L m).at slot ≡ Some own) (has_own : has u own ≡ true) (only : HasOnly u (L m) own) where
   abbrev pub M : Labels

@@ -5,3 +5,4 @@ pub mod Flipping
 pub mod Ending
 pub mod Slots
 pub mod Turning
+pub mod Dropped

@@ -20,14 +20,15 @@ use Rattle.region_sets.specs.Modules.{dimm_of}
 use Rattle.region_sets.specs.Regions.{handles}
 use Rattle.region_sets.proofs.Seated.{handle-at, length-handles}
 use Rattle.module_flips.specs.Together.{free_slots}
+use Rattle.namespace_healing.specs.Passes.{label_number}
 use Rattle.namespace_healing.proofs.Leading.{member-named}
 use Rattle.namespace_healing.proofs.Passing.{at-place, each-length}
-use Rattle.namespace_dropping.specs.Dropping.{GivesSlot, room_after_drop}
+use Rattle.namespace_dropping.specs.Dropping.{GivesSlot, HasGiven, room_after_drop}
 
--- The modules at the positions below one have a free slot more, and all others are as they were.
+-- The modules at the positions below one have given a label each, and all others are as they were.
 pub record HaveGivenTo (r : Region) (end : ℕ) (before after : List LoadedModule) : Type 0 where
   pub gave : (place : ℕ) (d : LoadedModule) → place < length before → (k : ℕ) → k < end → k < length r.members → (get_or before place d).dimm ≡ (member_at r k).handle
-      → free_slots (get_or after place d) ≡ free_slots (get_or before place d) + 1
+      → HasGiven (get_or before place d) (get_or after place d)
   pub left : (place : ℕ) (d : LoadedModule) → place < length before → ((k : ℕ) → k < end → k < length r.members → (get_or before place d).dimm ≢ (member_at r k).handle)
       → get_or after place d ≡ get_or before place d
 
@@ -40,11 +41,11 @@ given-more P disjoint r r_in i lt ms mid now dimms to gives = record {
   gave = λ place d p_lt k below k_lt named. elim (cases_eq k i) [
     | inl e ↦
         let here : (get_or ms place d).dimm ≡ (member_at r i).handle = named ∙ ap (λ j. (member_at r j).handle) e in
-        let more : free_slots (get_or now place d) ≡ free_slots (get_or mid place d) + 1 = gives.more place d (mid-lt place p_lt) (same place d p_lt ∙ here) in
-        more ∙ ap (λ (m : LoadedModule). free_slots m + 1) (to.left place d p_lt (λ j j_below j_lt other. apart j i j_lt lt (λ f. absurd (omega (arith, j_below, f))) (sym other ∙ here)))
+        subst (λ (m : LoadedModule). HasGiven m (get_or now place d)) (to.left place d p_lt (λ j j_below j_lt other. apart j i j_lt lt (λ f. absurd (omega (arith, j_below, f))) (sym other ∙ here)))
+        (gives.gave place d (mid-lt place p_lt) (same place d p_lt ∙ here))
     | inr differ ↦
-        ap free_slots (gives.others place d (mid-lt place p_lt) (λ other. apart k i k_lt lt differ (sym named ∙ sym (same place d p_lt) ∙ other)))
-        ∙ to.gave place d p_lt k (omega (arith, below, differ)) k_lt named
+        subst (HasGiven (get_or ms place d)) (sym (gives.others place d (mid-lt place p_lt) (λ other. apart k i k_lt lt differ (sym named ∙ sym (same place d p_lt) ∙ other))))
+        (to.gave place d p_lt k (omega (arith, below, differ)) k_lt named)
   ];
   left = λ place d p_lt away.
       gives.others place d (mid-lt place p_lt) (λ other. away i (omega arith) lt (sym (same place d p_lt) ∙ other))
@@ -69,17 +70,21 @@ module _ (r : Region) (end : ℕ) (all : length r.members ≤ end) (ms now : Lis
       apart : false ≡ true → ⊥
       apart e = cc
 
-  pub all-given : (place : ℕ) (d : LoadedModule) → place < length ms → free_slots (get_or now place d) ≡ free_slots (get_or ms place d) + slot_of r (get_or ms place d).dimm
+  pub all-given : (place : ℕ) (d : LoadedModule) → place < length ms
+      → (free_slots (get_or now place d) ≡ free_slots (get_or ms place d) + slot_of r (get_or ms place d).dimm)
+      × (label_number (get_or now place d) + slot_of r (get_or ms place d).dimm ≡ label_number (get_or ms place d))
   all-given place d p_lt = elim (member-cases r (get_or ms place d).dimm) [
     | inl found ↦
         let in_x = found.1 in
-        let more : free_slots (get_or now place d) ≡ free_slots (get_or ms place d) + 1 = to.gave place d p_lt in_x.0 (omega (arith, all, in_x.1)) in_x.1 (sym found.2 ∙ ap (λ (m : Member). m.handle) (sym (member-named r found.0 in_x))) in
+        let gave : HasGiven (get_or ms place d) (get_or now place d) = to.gave place d p_lt in_x.0 (omega (arith, all, in_x.1)) in_x.1 (sym found.2 ∙ ap (λ (m : Member). m.handle) (sym (member-named r found.0 in_x))) in
         let one : slot_of r (get_or ms place d).dimm ≡ 1 = ap (slot_of r) (sym found.2) ∙ slot_of-member r found.0 in_x in
-        omega (arith, more, one)
+        (omega (arith, gave.free, one), omega (arith, gave.labels, one))
     | inr away ↦
-        let same : free_slots (get_or now place d) ≡ free_slots (get_or ms place d) = ap free_slots (kept-elsewhere place d p_lt away.0) in
+        let same : get_or now place d ≡ get_or ms place d = kept-elsewhere place d p_lt away.0 in
+        let free : free_slots (get_or now place d) ≡ free_slots (get_or ms place d) = ap free_slots same in
+        let labels : label_number (get_or now place d) ≡ label_number (get_or ms place d) = ap label_number same in
         let none : slot_of r (get_or ms place d).dimm ≡ 0 = slot_of-other r (get_or ms place d).dimm away.0 in
-        omega (arith, same, none)
+        (omega (arith, free, none), omega (arith, labels, none))
   ]
 
 -- the room after the modules of some handles have lost a label each

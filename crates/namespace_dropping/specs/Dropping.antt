@@ -1,5 +1,5 @@
 -- The labels of a namespace are freed, by which it is gone.
-use Rattle.std.specs.Prelude.{◌≡◌, ◌⊎◌, ℕ, ◌+◌, ◌<◌, false, true, List, length, map, slice_index_or}
+use Rattle.std.specs.Prelude.{◌≡◌, ◌≢◌, ◌⊎◌, ℕ, ◌+◌, ◌<◌, false, true, List, length, map, slice_index_or}
 use Rattle.std.specs.List.{Contains}
 use Rattle.module_labels.specs.Labels.{Labels}
 use Rattle.region_map.specs.declared.platform.Member.{Member}
@@ -16,6 +16,7 @@ use Rattle.region_sets.specs.Modules.{labels_in}
 use Rattle.region_sets.specs.Regions.{handles}
 use Rattle.region_changes.specs.Rooms.{room_for}
 use Rattle.module_flips.specs.Together.{IsTogether, free_slots}
+use Rattle.namespace_healing.specs.Passes.{label_number}
 
 -- A namespace of one of the regions can be dropped: each of its labels is being changed, and none is read-only.
 pub record CanDrop (modules : List LoadedModule) (regions : List RegionLabels) (region : Region)
@@ -32,17 +33,21 @@ IsBeforeOrWithout platform region uuid before labels =
     ⊎ (state platform labels ≡ without_namespace region uuid (state platform before))
 
 -- The state has the namespace no more, nor has any module of the region a label with its uuid. All other labels are
--- kept. Each module of the region has a free slot more, and all other modules are as they were.
+-- kept. Each module of the region has a free slot more and a label less, and all other modules are as they were.
 pub record IsDropped (modules : List LoadedModule) (regions : List RegionLabels) (region : Region)
     (uuid : List ℕ) (now : List LoadedModule) : Type 0 where
   pub state_is : state (platform_of regions) (labels_in now)
       ≡ without_namespace region uuid (state (platform_of regions) (labels_in modules))
   pub none : (member : Member) → Contains region.members member → HasNone uuid (labels_in now member.handle)
   pub others : (handle : ℕ) → other_labels uuid (labels_in now handle) ≡ other_labels uuid (labels_in modules handle)
+  pub elsewhere : (handle : ℕ) → is_member region handle ≡ false → labels_in now handle ≡ labels_in modules handle
   pub free : (place : ℕ) (d : LoadedModule) → place < length modules
       → free_slots (slice_index_or now place d)
       ≡ free_slots (slice_index_or modules place d) + slot_of region (slice_index_or modules place d).dimm
-  pub elsewhere : (place : ℕ) (d : LoadedModule) → place < length modules
+  pub counts : (place : ℕ) (d : LoadedModule) → place < length modules
+      → label_number (slice_index_or now place d) + slot_of region (slice_index_or modules place d).dimm
+      ≡ label_number (slice_index_or modules place d)
+  pub kept : (place : ℕ) (d : LoadedModule) → place < length modules
       → is_member region (slice_index_or modules place d).dimm ≡ false
       → slice_index_or now place d ≡ slice_index_or modules place d
 
@@ -64,10 +69,15 @@ abbrev pub IsBeforeOrLost : Region → List ℕ → ℕ → Labels → Labels �
 IsBeforeOrLost region uuid position before labels =
     (labels ≡ before) ⊎ LosesLabel region uuid position before labels
 
--- The module with a handle has a free slot more, and all others are as they were.
+-- a module has a label less, and a free slot more
+pub record HasGiven (before after : LoadedModule) : Type 0 where
+  pub free : free_slots after ≡ free_slots before + 1
+  pub labels : label_number after + 1 ≡ label_number before
+
+-- The module with a handle has given its label, and all others are as they were.
 pub record GivesSlot (handle : ℕ) (before after : List LoadedModule) : Type 0 where
-  pub more : (place : ℕ) (d : LoadedModule) → place < length before → (slice_index_or before place d).dimm ≡ handle
-      → free_slots (slice_index_or after place d) ≡ free_slots (slice_index_or before place d) + 1
+  pub gave : (place : ℕ) (d : LoadedModule) → place < length before → (slice_index_or before place d).dimm ≡ handle
+      → HasGiven (slice_index_or before place d) (slice_index_or after place d)
   pub others : (place : ℕ) (d : LoadedModule) → place < length before
-      → ((slice_index_or before place d).dimm ≡ handle → ⊥)
+      → (slice_index_or before place d).dimm ≢ handle
       → slice_index_or after place d ≡ slice_index_or before place d

@@ -13,7 +13,7 @@ ghost use Rattle.module_flips.specs.Stops.{HasAreaCause, LeftIn, WritesAmong};
 ghost use Rattle.module_flips.specs.Stored.{StandsIn};
 ghost use Rattle.module_flips.specs.Together.{IsTogether, StaysTogether};
 ghost use Rattle.namespace_dropping.specs.Dropping.{CanDrop, HasOneAt, IsBeforeOrLost, IsBeforeOrWithout, IsDropped};
-ghost use Rattle.namespace_dropping.specs.Dropping.{LosesLabel, GivesSlot, room_after_drop};
+ghost use Rattle.namespace_dropping.specs.Dropping.{GivesSlot, LosesLabel, room_after_drop};
 
 use crate::places::place_of;
 use module_flips::{AreaFailed, free_at};

@@ -100,8 +100,10 @@ returns-clause-dropped g c =
       state_is = before.dropped.gone (omega (arith, all, some));
       none = none-left P region u end start L all before.dropped;
       others = before.dropped.others;
-      free = all-given region end all c.args.modules.now c.loop-position.modules before.given;
-      elsewhere = kept-elsewhere region end all c.args.modules.now c.loop-position.modules before.given;
+      elsewhere = before.dropped.elsewhere;
+      free = λ place d lt. (all-given region end all c.args.modules.now c.loop-position.modules before.given place d lt).0;
+      counts = λ place d lt. (all-given region end all c.args.modules.now c.loop-position.modules before.given place d lt).1;
+      kept = kept-elsewhere region end all c.args.modules.now c.loop-position.modules before.given;
     }
 
 pub returns-clause-room : goal.returns-clause-room
