@@ -17,8 +17,12 @@ use Rattle.label_table.proofs.Leaving.{label_if-some}
 use Rattle.label_table.proofs.ListTests.{Contains-get_or, both, eq_same, list_any-at, never}
 use Rattle.label_table.proofs.Losing.{freed-state}
 use Rattle.label_table.proofs.Staging.{staged-kept}
+use Rattle.region_sets.specs.declared.modules.LoadedModule.{LoadedModule}
+use Rattle.region_sets.specs.declared.region.RegionLabels.{RegionLabels}
+use Rattle.region_sets.specs.Fates.{platform_of}
+use Rattle.region_sets.specs.Modules.{labels_in}
 use Rattle.namespace_healing.proofs.Leading.{member-named}
-use Rattle.namespace_dropping.specs.Dropping.{HasOneAt, IsBeforeOrLost, IsBeforeOrWithout, LosesLabel}
+use Rattle.namespace_dropping.specs.Dropping.{HasOneAt, IsBeforeOrLost, IsBeforeOrWithout, IsKeptOrGone, LosesLabel}
 
 -- The modules at the positions below one have lost their labels of the namespace, and those from there on are as they
 -- were, and so are all others.
@@ -169,3 +173,14 @@ module _ (P : Platform) (disjoint : IsDisjoint P) (r : Region) (r_in : Contains 
 pub none-left : (P : Platform) (r : Region) (u : List ℕ) (end : ℕ) (start L : Labels) → length r.members ≤ end → IsDroppedTo P r u end start L → (y : Member) → Contains r.members y → HasNone u (L y.handle)
 none-left P r u end start L all to y y_in =
     subst (λ (m : Member). HasNone u (L m.handle)) (member-named r y y_in) (to.none y_in.0 (omega (arith, all, y_in.1)) y_in.1)
+
+-- where the turn fails, all is as it was, or the namespace is gone
+pub kept-or-gone : (ms : List LoadedModule) (rs : List RegionLabels) (r : Region) (u : List ℕ) (i : ℕ) → i < length r.members → (mid now : List LoadedModule)
+    → IsDroppedTo (platform_of rs) r u i (labels_in ms) (labels_in mid) → (i ≡ 0 → mid ≡ ms) → now ≡ mid → IsKeptOrGone ms rs r u now
+kept-or-gone ms rs r u i lt mid now to start kept = elim (cases_lt 0 i) [
+  | inl some ↦ inr (record {
+    state_is = ap (λ (xs : List LoadedModule). state (platform_of rs) (labels_in xs)) kept ∙ to.gone some;
+    first = subst (λ (xs : List LoadedModule). HasNone u (labels_in xs (member_at r 0).handle)) (sym kept) (to.none 0 some (omega (arith, lt)));
+  })
+  | inr none ↦ inl (kept ∙ start (omega (arith, none)))
+]

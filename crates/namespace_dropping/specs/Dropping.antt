@@ -51,6 +51,17 @@ pub record IsDropped (modules : List LoadedModule) (regions : List RegionLabels)
       → is_member region (slice_index_or modules place d).dimm ≡ false
       → slice_index_or now place d ≡ slice_index_or modules place d
 
+-- The state has the namespace no more, and the module at position 0 has lost its label.
+pub record IsGone (modules : List LoadedModule) (regions : List RegionLabels) (region : Region) (uuid : List ℕ)
+    (now : List LoadedModule) : Type 0 where
+  pub state_is : state (platform_of regions) (labels_in now)
+      ≡ without_namespace region uuid (state (platform_of regions) (labels_in modules))
+  pub first : HasNone uuid (labels_in now (member_at region 0).handle)
+
+-- all modules are as they were, or the namespace is gone
+abbrev pub IsKeptOrGone : List LoadedModule → List RegionLabels → Region → List ℕ → List LoadedModule → Type 0
+IsKeptOrGone modules regions region uuid now = (now ≡ modules) ⊎ IsGone modules regions region uuid now
+
 -- the room in the index of a region after each module of one has lost a label
 abbrev pub room_after_drop : Region → RegionLabels → ℕ
 room_after_drop region kept = kept.index.room + room_for (handles region) kept.region

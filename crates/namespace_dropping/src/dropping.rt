@@ -13,7 +13,7 @@ ghost use Rattle.module_flips.specs.Stops.{HasAreaCause, LeftIn, WritesAmong};
 ghost use Rattle.module_flips.specs.Stored.{StandsIn};
 ghost use Rattle.module_flips.specs.Together.{IsTogether, StaysTogether};
 ghost use Rattle.namespace_dropping.specs.Dropping.{CanDrop, HasOneAt, IsBeforeOrLost, IsBeforeOrWithout, IsDropped};
-ghost use Rattle.namespace_dropping.specs.Dropping.{GivesSlot, LosesLabel, room_after_drop};
+ghost use Rattle.namespace_dropping.specs.Dropping.{GivesSlot, IsKeptOrGone, LosesLabel, room_after_drop};
 
 use crate::places::place_of;
 use module_flips::{AreaFailed, free_at};
@@ -26,7 +26,8 @@ use rig_trait::Rig;
 /// being changed, and none is read-only. By the first flip the namespace is gone, and each module of the region has a
 /// slot more to spare. It takes no memory. A stop at any moment leaves areas that stand for the state before, or for
 /// that without the namespace. `Err` where the rig failed, with the module's handle: what is kept is then what the
-/// flips before the failure made.
+/// flips before the failure made, so that the namespace is gone exactly where the module at position 0 has lost its
+/// label.
 pub fn drop_labels<R: Rig>(
     rig: &mut R,
     modules: &mut [LoadedModule],
@@ -37,6 +38,7 @@ pub fn drop_labels<R: Rig>(
     requires can { CanDrop modules.old regions.old region.now uuid.now }
     requires sized { IsTold R.Shown rig.old → All (IsSizedIn (R.areas rig.old)) modules.old }
     ensures dropped { OnOk result (IsDropped modules.old regions.old region.now uuid.now modules.new) }
+    ensures failed { OnErr result (IsKeptOrGone modules.old regions.old region.now uuid.now modules.new) }
     ensures either { IsBeforeOrWithout (platform_of regions.old) region.now uuid.now (labels_in modules.old)
         (labels_in modules.new) }
     ensures together { StaysTogether modules.old regions.old modules.new regions.new }

@@ -8,7 +8,7 @@ use Rattle.namespace_healing.proofs.Bounded.{all-bounded}
 use Rattle.namespace_healing.proofs.Ending.{some-members}
 use Rattle.namespace_healing.proofs.Passing.{no-pass}
 use Rattle.namespace_dropping.specs.Dropping.{IsBeforeOrLost, IsBeforeOrWithout}
-use Rattle.namespace_dropping.proofs.Ending.{dropped-more, dropped-start, none-left, one-there, turn-state}
+use Rattle.namespace_dropping.proofs.Ending.{dropped-more, dropped-start, kept-or-gone, none-left, one-there, turn-state}
 use Rattle.namespace_dropping.proofs.Slots.{all-given, given-more, given-start, kept-elsewhere, room-all, room-more, room-start}
 use Rattle.namespace_dropping.proofs.Turning.{moment-on, sized-on, stays-on, writes-on}
 use Rattle.namespace_dropping.proofs.dropping.drop_labels.Goals as goal
@@ -16,6 +16,7 @@ use Rattle.namespace_dropping.proofs.dropping.drop_labels.Goals as goal
 pub loop-position-init : goal.loop-position-init
 loop-position-init g c = record {
   dropped = dropped-start (platform_of c.args.regions.now) c.args.region.now c.args.uuid.now (labels_in c.args.modules.now) c.requires.can.whole;
+  start = λ e. refl;
   given = given-start c.args.region.now c.args.modules.now;
   room = room-start c.args.regions.now;
   together = (no-pass {m = g.R.Shown} (handles c.args.region.now) c.args.modules.now c.args.regions.now c.args.rig.now c.requires.can.together).together;
@@ -56,6 +57,13 @@ returns-in-Err-clause-any_moment g c =
     (turn-state P can.together.disjoint region can.region_in u start (all-bounded c.args.modules.now can.together.in_use) can.whole can.stale L (all-bounded c.loop-position.modules before.together.together.in_use) c.loop-position.position lt before.dropped)
     before.any_moment before.stands c.drop_at.ensures.any_moment
 
+pub returns-in-Err-clause-failed : goal.returns-in-Err-clause-failed
+returns-in-Err-clause-failed g c =
+    let before = c.loop-position.invariant in
+    let len : c.len-position-end.result ≡ length c.args.region.now.members = c.len-position-end.ensures in
+    let lt : c.loop-position.position < length c.args.region.now.members = omega (arith, len, c.loop-position-test.true) in
+    kept-or-gone c.args.modules.now c.args.regions.now c.args.region.now c.args.uuid.now c.loop-position.position lt c.loop-position.modules c.drop_at.new.modules before.dropped before.start c.in-Err.ensures.kept
+
 pub loop-position-preserved : goal.loop-position-preserved
 loop-position-preserved g c =
     let can = c.requires.can in
@@ -73,6 +81,7 @@ loop-position-preserved g c =
     let bounded = all-bounded c.loop-position.modules before.together.together.in_use in
     record {
       dropped = dropped-more P can.together.disjoint region can.region_in u start bounded_start can.whole can.stale L bounded position lt before.dropped (labels_in c.drop_at.new.modules) turn.lost;
+      start = λ e. absurd (omega (arith, e));
       given = given-more P can.together.disjoint region can.region_in position lt c.args.modules.now c.loop-position.modules c.drop_at.new.modules before.together.dimms before.given turn.gives;
       room = room-more region position lt c.args.regions.now c.loop-position.regions c.drop_at.new.regions before.room turn.room;
       together = stays-on before.together turn.together;

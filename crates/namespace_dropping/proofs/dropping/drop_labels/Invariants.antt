@@ -16,6 +16,7 @@ use Rattle.namespace_dropping.proofs.dropping.drop_labels.Given as goal
 abbrev pub invariant-loop-position : goal.invariant-loop-position
 invariant-loop-position g l = record {
   dropped : IsDroppedTo (platform_of l.fn.regions) l.region l.uuid l.position (labels_in l.fn.modules) (labels_in l.modules);
+  start : l.position ≡ 0 → l.modules ≡ l.fn.modules;
   given : HaveGivenTo l.region l.position l.fn.modules l.modules;
   room : AllZip (KeepsRegion (room_after_some (take l.position (handles l.region)))) l.fn.regions l.regions;
   together : StaysTogether l.fn.modules l.fn.regions l.modules l.regions;
