@@ -6,3 +6,4 @@ pub mod Ending
 pub mod Slots
 pub mod Turning
 pub mod Dropped
+pub mod Gone

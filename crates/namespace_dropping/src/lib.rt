@@ -6,3 +6,4 @@ mod dropping;
 mod places;
 
 pub use dropping::drop_labels;
+pub use places::is_gone;

@@ -1,13 +1,15 @@
 //! Where the label with a uuid stands of which a module has one.
 
-ghost use Rattle.std.specs.Prelude.{◌≡◌, ◌<◌, length, map};
+ghost use Rattle.std.specs.Prelude.{◌≡◌, ◌<◌, List, false, length, map, true};
 ghost use Rattle.std.specs.List.{Contains};
 ghost use Rattle.label_table.specs.Belonging.{IsDisjoint};
+ghost use Rattle.region_sets.specs.declared.modules.LoadedModule.{LoadedModule};
+ghost use Rattle.region_sets.specs.declared.region.RegionLabels.{RegionLabels};
 ghost use Rattle.region_sets.specs.Fates.{platform_of, region_in};
 ghost use Rattle.region_sets.specs.Modules.{labels_in};
 ghost use Rattle.module_flips.specs.Together.{IsTogether};
 ghost use Rattle.namespace_healing.specs.Healing.{StandsAt};
-ghost use Rattle.namespace_dropping.specs.Dropping.{HasOneAt};
+ghost use Rattle.namespace_dropping.specs.Dropping.{CanDrop, HasOneAt, IsGone, IsKeptOrGone};
 
 use namespace_healing::LabelPlace;
 use region_map::Region;
@@ -42,6 +44,22 @@ pub(crate) fn place_of(
         },
         Found::Repeated => unreachable!(),
     }
+}
+
+/// Whether the namespace is gone where `drop_labels` failed: its label at position 0 is. If not, all modules are as they
+/// were.
+pub fn is_gone(regions: &[RegionLabels], region: &Region, uuid: &[u8; 16]) -> bool
+    requires disjoint { IsDisjoint (platform_of regions.now) }
+    requires region_in { Contains (map region_in regions.now) region.now }
+    requires some { 0 < length region.now.members }
+    ensures gone { (modules : List LoadedModule) (before : List RegionLabels) (now : List LoadedModule)
+        → CanDrop modules before region.now uuid.now → IsKeptOrGone modules before region.now uuid.now now
+        → IsTogether now regions.now → result ≡ true → IsGone modules before region.now uuid.now now }
+    ensures kept { (modules : List LoadedModule) (before : List RegionLabels) (now : List LoadedModule)
+        → IsKeptOrGone modules before region.now uuid.now now
+        → IsTogether now regions.now → result ≡ false → now ≡ modules }
+{
+    matches!(kept_of(regions, region).index.find(uuid, 0), Found::Nowhere)
 }
 
 /// What is kept of a region that is one of the regions.
