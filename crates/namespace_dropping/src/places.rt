@@ -46,8 +46,8 @@ pub(crate) fn place_of(
     }
 }
 
-/// Whether the namespace is gone where `drop_labels` failed: its label at position 0 is. If not, all modules are as they
-/// were.
+/// Whether the namespace is gone after `drop_labels` failed: it is where the module at position 0 has lost its label.
+/// Elsewhere all modules are as they were.
 pub fn is_gone(regions: &[RegionLabels], region: &Region, uuid: &[u8; 16]) -> bool
     requires disjoint { IsDisjoint (platform_of regions.now) }
     requires region_in { Contains (map region_in regions.now) region.now }
