@@ -9,12 +9,13 @@ import random
 import subprocess
 import sys
 import tempfile
+import time
 from pathlib import Path
 
 from check_lists import ROOT
 
-# The program takes a few milliseconds for a create. Longer than the longest wait it is not left alone.
-SHORTEST, LONGEST = 0.001, 0.012
+# The longest wait, by the time that a create takes which is left alone.
+LONGEST = 1.1
 
 
 def main() -> int:
@@ -32,10 +33,13 @@ def main() -> int:
 
         for module in ("0x1", "0x101"):
             said("init-labels", f"dimm={module}")
-        names: list = []
+        start = time.perf_counter()
+        said("create-namespace", "region=1", "size=4M", "name=first", seconds=60)
+        longest = LONGEST * (time.perf_counter() - start)
+        names = ["first"]
         for number in range(count):
             name = f"n{number}"
-            seconds = chance.uniform(SHORTEST, LONGEST)
+            seconds = chance.uniform(longest / 20, longest)
             reply = said("create-namespace", "region=1", "size=4M", f"name={name}", seconds=seconds)
             listed = said("list", "region=1")
             shown = [line.split("name=")[1].split()[0] for line in listed.splitlines()[:-1]]
