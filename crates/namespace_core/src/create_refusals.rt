@@ -1,6 +1,6 @@
-//! Why a create is refused: look-ups in the state, without memory.
+//! Why a create is refused: look-ups in the state.
 
-ghost use Rattle.std.specs.Prelude.{◌≡◌, List, Some};
+ghost use Rattle.std.specs.Prelude.{◌≡◌, IfOk, List, Some};
 ghost use Rattle.view_types.specs.declared.extents.Extent.{Extent};
 ghost use Rattle.region_map.specs.Platforms.{IsSound, region_at};
 ghost use Rattle.label_table.specs.Division.{AreFreeExtents};
@@ -13,10 +13,12 @@ ghost use Rattle.table_steps.specs.Refusals.{no_slots_in, unhealed_in};
 ghost use Rattle.namespace_core.specs.Create.{IsCreateRefusal, first_named};
 ghost use Rattle.namespace_core.specs.Lists.{IsStateOf};
 
-use crate::lists::refusal_by;
+use crate::lists::ready_view;
+use crate::refusals::Unanswered;
 use label_sets::Sets;
 use region_lookups::Named;
 use region_map::{Platform, Region};
+use std::alloc::{AllocError, Global};
 use table_steps::{NewNamespace, bad_size};
 use view_types::Refusal;
 
@@ -25,27 +27,25 @@ const LEAST_SPARE: u32 = 2;
 
 /// The first refusal of a create that applies. `None` exactly where it is accepted.
 pub(crate) fn create_refusal(
+    alloc: Global,
     platform: &Platform,
     sets: &Sets,
     asked: &NewNamespace,
-) -> Option<Refusal>
+) -> Result<Option<Refusal>, AllocError>
     requires sound { IsSound platform.now }
     requires state { IsStateOf platform.now sets.now }
-    ensures { IsCreateRefusal platform.now (labels_in sets.now) asked.now result }
+    ensures { IfOk result (IsCreateRefusal platform.now (labels_in sets.now) asked.now) }
 {
-    let Some(status) = sets.status(asked.region) else {
-        return Some(Refusal::UnknownRegion {
-            region: asked.region,
-        });
-    };
+    match ready_view(alloc, platform, sets, asked.region) {
+        Ok(_) => (),
+        Err(Unanswered::Refused(refusal)) => return Ok(Some(refusal)),
+        Err(Unanswered::Memory) => return Err(AllocError),
+    }
     let Some(region) = platform.region(asked.region) else {
         // The state has no other regions.
         unreachable!()
     };
-    match refusal_by(status) {
-        Some(refusal) => Some(refusal),
-        None => ready_refusal(platform, sets, region, asked),
-    }
+    Ok(ready_refusal(platform, sets, region, asked))
 }
 
 /// The first refusal of a create in a region that is Ready.

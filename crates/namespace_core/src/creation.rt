@@ -23,6 +23,7 @@ use label_sets::{AreaFailed, Sets};
 use recovery::{RecoverFault, recover};
 use region_map::{Member, Platform, Region};
 use rig_trait::Rig;
+use std::alloc::Global;
 use table_steps::NewNamespace;
 use view_types::{Namespace, Reply};
 
@@ -40,6 +41,7 @@ pub enum ChangeFault {
 /// the region is recovered. The reply tells where it stands, or why nothing was done: nothing was written then. A stop
 /// at any moment leaves areas that stand for the table before the command, or for that behind it.
 pub fn create<R: Rig>(
+    alloc: Global,
     rig: &mut R,
     platform: &Platform,
     sets: &mut Sets,
@@ -66,8 +68,10 @@ pub fn create<R: Rig>(
     ensures cause { HasChangeCause (modules_of platform.now asked.now.region) R.Shown rig.old rig.new result }
     ensures reads { R.reads rig.new ≡ R.reads rig.old }
 {
-    if let Some(refusal) = create_refusal(platform, sets, asked) {
-        return Ok(Reply::Refused(refusal));
+    match create_refusal(alloc, platform, sets, asked) {
+        Ok(None) => (),
+        Ok(Some(refusal)) => return Ok(Reply::Refused(refusal)),
+        Err(_) => return Err(ChangeFault::Memory),
     }
     let Some(region) = platform.region(asked.region) else {
         // Else it is refused.

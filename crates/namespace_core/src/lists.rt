@@ -202,7 +202,7 @@ fn held_labels(
 }
 
 /// The view of a region that is Ready.
-fn ready_view(
+pub(crate) fn ready_view(
     alloc: Global,
     platform: &Platform,
     sets: &Sets,
@@ -226,7 +226,7 @@ fn ready_view(
 }
 
 /// Why nothing is told of a region with this status.
-pub(crate) fn refusal_by(status: Status) -> Option<Refusal>
+fn refusal_by(status: Status) -> Option<Refusal>
     ensures { result ≡ refusal_by status }
 {
     match status {

@@ -52,7 +52,7 @@ pub(crate) fn do_command<R: Rig>(
                 sector,
                 uuid,
             };
-            create(rig, platform, sets, &asked)
+            create(alloc, rig, platform, sets, &asked)
         }
         Command::ListSpaces { region } => {
             told(show(alloc, platform, sets, Query::Spaces { region }))

@@ -26,29 +26,29 @@ use Rattle.namespace_core.proofs.RecoveredSpaces.{state-there}
 use Rattle.namespace_core.proofs.creation.create.Goals as goal
 
 -- Nothing is written where it is refused.
-pub returns-in-Some-clause-step : goal.returns-in-Some-clause-step
-returns-in-Some-clause-step g c =
+pub returns-in-Ok-Some-clause-step : goal.returns-in-Ok-Some-clause-step
+returns-in-Ok-Some-clause-step g c =
     let P = c.args.platform.now in
     let sets = c.args.sets.now in
     let a = c.args.asked.now in
-    creates-refused P (labels_in sets) a c.in-Some.refusal (state_in sets)
-    (λ free are. c.create_refusal.ensures free are ∙ c.in-Some.is) (state-there P sets c.requires.state.regions (labels_in sets))
+    creates-refused P (labels_in sets) a c.in-Ok-Some.refusal (state_in sets)
+    (λ free are. c.in-Ok-Some.ensures free are ∙ c.in-Ok-Some.field-0-is) (state-there P sets c.requires.state.regions (labels_in sets))
 
-pub returns-in-Some-clause-any_moment : goal.returns-in-Some-clause-any_moment
-returns-in-Some-clause-any_moment g c = λ told all.
+pub returns-in-Ok-Some-clause-any_moment : goal.returns-in-Ok-Some-clause-any_moment
+returns-in-Ok-Some-clause-any_moment g c = λ told all.
     let sets = c.args.sets.now in
     let P = c.args.platform.now in
     no_flip {m = g.R.Shown} {old = c.args.rig.now} (map dimm_of sets.modules) (IsBeforeOrAfter P (labels_in sets) c.args.asked.now) (labels_in sets) (stands sets.modules (g.R.Shown.areas c.args.rig.now) all) (inl refl)
 
-pub returns-in-Some-clause-writes_among : goal.returns-in-Some-clause-writes_among
-returns-in-Some-clause-writes_among g c = no_write {m = g.R.Shown} (modules_of c.args.platform.now c.args.asked.now.region) c.args.rig.now
+pub returns-in-Ok-Some-clause-writes_among : goal.returns-in-Ok-Some-clause-writes_among
+returns-in-Ok-Some-clause-writes_among g c = no_write {m = g.R.Shown} (modules_of c.args.platform.now c.args.asked.now.region) c.args.rig.now
 
 -- The region is there.
 pub unreachable-requires : goal.unreachable-requires
 unreachable-requires g c =
     let P = c.args.platform.now in
-    let none : region_at P c.args.asked.now.region ≡ None = sym c.region.ensures ∙ ap option_copied c.in_default-region.is in
-    region-there P c.args.sets.now c.requires.state c.args.asked.now (λ free are. c.create_refusal.ensures free are ∙ c.in_default.is) none
+    let none : region_at P c.args.asked.now.region ≡ None = sym c.region.ensures ∙ ap option_copied c.in_default.is in
+    region-there P c.args.sets.now c.requires.state c.args.asked.now (λ free are. c.in-Ok-None.ensures free are ∙ c.in-Ok-None.field-0-is) none
 
 -- It is made.
 pub make-requires-clause-state : goal.make-requires-clause-state
@@ -56,11 +56,11 @@ make-requires-clause-state g c =
     subst (IsStateOf c.args.platform.now) (sym c.in-Ok.ensures.ok) (record { regions = c.requires.state.regions; modules = c.requires.state.modules })
 
 pub make-requires-clause-known : goal.make-requires-clause-known
-make-requires-clause-known g c = sym c.region.ensures ∙ ap option_copied c.in-Some-region.is
+make-requires-clause-known g c = sym c.region.ensures ∙ ap option_copied c.in-Some.is
 
 pub make-requires-clause-unrefused : goal.make-requires-clause-unrefused
 make-requires-clause-unrefused g c =
-    subst (λ (s : StoredSets). IsCreateRefusal c.args.platform.now (labels_in s) c.args.asked.now None) (sym c.in-Ok.ensures.ok) (λ free are. c.create_refusal.ensures free are ∙ c.in_default.is)
+    subst (λ (s : StoredSets). IsCreateRefusal c.args.platform.now (labels_in s) c.args.asked.now None) (sym c.in-Ok.ensures.ok) (λ free are. c.in-Ok-None.ensures free are ∙ c.in-Ok-None.field-0-is)
 
 pub make-requires-clause-room : goal.make-requires-clause-room
 make-requires-clause-room g c = ap (λ (s : StoredSets). s.room) c.in-Ok.ensures.ok
@@ -72,12 +72,12 @@ pub returns-in-Ok-clause-step : goal.returns-in-Ok-clause-step
 returns-in-Ok-clause-step g c =
     let P = c.args.platform.now in
     let a = c.args.asked.now in
-    let r = c.in-Some-region.region.now in
-    let known : region_at P a.region ≡ Some r = sym c.region.ensures ∙ ap option_copied c.in-Some-region.is in
+    let r = c.in-Some.region.now in
+    let known : region_at P a.region ≡ Some r = sym c.region.ensures ∙ ap option_copied c.in-Some.is in
     let made : IfOk c.make.result (λ reply. IsCreated P (labels_in c.args.sets.now) a reply (state_in c.make.new.sets)) =
     subst (λ (s : StoredSets). IfOk c.make.result (λ reply. IsCreated P (labels_in s) a reply (state_in c.make.new.sets))) c.in-Ok.ensures.ok c.make.ensures.made in
     at_ok c.make.result (λ reply. IsCreated P (labels_in c.args.sets.now) a reply (state_in c.make.new.sets)) (λ reply. Creates P (labels_in c.args.sets.now) a reply (state_in c.make.new.sets))
-    (λ reply is. creates-accepted P (labels_in c.args.sets.now) a r known (λ free are. c.create_refusal.ensures free are ∙ c.in_default.is) reply (state_in c.make.new.sets) is) made
+    (λ reply is. creates-accepted P (labels_in c.args.sets.now) a r known (λ free are. c.in-Ok-None.ensures free are ∙ c.in-Ok-None.field-0-is) reply (state_in c.make.new.sets) is) made
 
 pub returns-in-Ok-clause-refused : goal.returns-in-Ok-clause-refused
 returns-in-Ok-clause-refused g c =
@@ -114,11 +114,11 @@ returns-in-Ok-clause-any_moment g c = λ told all.
 
 pub returns-in-Ok-clause-writes_among : goal.returns-in-Ok-clause-writes_among
 returns-in-Ok-clause-writes_among g c =
-    subst (λ (found : Option Region). WritesAmong (option_map_or handles found []) g.R.Shown c.args.rig.now c.make.new.rig) (ap option_copied (sym c.in-Some-region.is) ∙ c.region.ensures) c.make.ensures.step.writes
+    subst (λ (found : Option Region). WritesAmong (option_map_or handles found []) g.R.Shown c.args.rig.now c.make.new.rig) (ap option_copied (sym c.in-Some.is) ∙ c.region.ensures) c.make.ensures.step.writes
 
 pub returns-in-Ok-clause-cause : goal.returns-in-Ok-clause-cause
 returns-in-Ok-clause-cause g c =
-    subst (λ (found : Option Region). HasChangeCause (option_map_or handles found []) g.R.Shown c.args.rig.now c.make.new.rig c.make.result) (ap option_copied (sym c.in-Some-region.is) ∙ c.region.ensures) c.make.ensures.cause
+    subst (λ (found : Option Region). HasChangeCause (option_map_or handles found []) g.R.Shown c.args.rig.now c.make.new.rig c.make.result) (ap option_copied (sym c.in-Some.is) ∙ c.region.ensures) c.make.ensures.cause
 
 -- No memory was given.
 pub returns-in-Err-clause-any_moment : goal.returns-in-Err-clause-any_moment
@@ -129,3 +129,12 @@ returns-in-Err-clause-any_moment g c = λ told all.
 
 pub returns-in-Err-clause-writes_among : goal.returns-in-Err-clause-writes_among
 returns-in-Err-clause-writes_among g c = no_write {m = g.R.Shown} (modules_of c.args.platform.now c.args.asked.now.region) c.args.rig.now
+
+pub returns-in-Err-reserve-clause-any_moment : goal.returns-in-Err-reserve-clause-any_moment
+returns-in-Err-reserve-clause-any_moment g c = λ told all.
+    let sets = c.args.sets.now in
+    let P = c.args.platform.now in
+    no_flip {m = g.R.Shown} {old = c.args.rig.now} (map dimm_of sets.modules) (IsBeforeOrAfter P (labels_in sets) c.args.asked.now) (labels_in sets) (stands sets.modules (g.R.Shown.areas c.args.rig.now) all) (inl refl)
+
+pub returns-in-Err-reserve-clause-writes_among : goal.returns-in-Err-reserve-clause-writes_among
+returns-in-Err-reserve-clause-writes_among g c = no_write {m = g.R.Shown} (modules_of c.args.platform.now c.args.asked.now.region) c.args.rig.now
