@@ -28,7 +28,7 @@ pub use reply::Reply;
 pub use rule::Rule;
 pub use states::{AreaState, Status};
 pub use translation::{Run, TranslateFault};
-pub use views::{ModuleView, RegionView};
+pub use views::{ModuleView, RegionView, View};
 pub use word_fault::WordFault;
 
 #[cfg(test)]

@@ -34,3 +34,12 @@ pub struct ModuleView {
     /// with none first.
     pub held: List<Held>,
 }
+
+/// A platform with the state that the areas of its modules stand for.
+#[derive(Drop)]
+pub struct View {
+    /// By index.
+    pub regions: List<RegionView>,
+    /// By handle.
+    pub modules: List<ModuleView>,
+}
