@@ -1,0 +1,60 @@
+-- Which areas the lines of a list may change, and the bytes of the others.
+use Rattle.std.specs.Prelude.{◌≡◌, ◌⊎◌, ℕ, true, false, List, [], Option, Some, None, Result, Ok, Err, if◌then◌else◌}
+use Rattle.std.specs.FinMap.{get}
+use Rattle.std.specs.List.{flat_map}
+use Rattle.rig_trait.specs.Areas.{Areas}
+use Rattle.rig_trait.specs.Records.{CrashRecord}
+use Rattle.label_area.specs.Fair.{IsFair}
+use Rattle.label_area.specs.Flips.{is_among}
+use Rattle.label_area.specs.Inits.{IsVacant, initialised, slots_of}
+use Rattle.label_area.specs.Modules.{area_kind}
+use Rattle.module_labels.specs.declared.kind.AreaKind.TheVariants.{Uninit}
+use Rattle.region_map.specs.declared.platform.Platform.{Platform}
+use Rattle.cmd_words.specs.declared.commands.Command.{Command}
+use Rattle.cmd_words.specs.declared.commands.Command.TheVariants.{InitLabels}
+use Rattle.cmd_words.specs.Lines.{command_in}
+use Rattle.view_types.specs.declared.word_fault.WordFault.{WordFault}
+use Rattle.sessions.specs.Commands.{has_module, is_init, written_by}
+
+-- the modules whose labels a command may change
+abbrev pub changed_by_command : Platform → Command → List ℕ
+changed_by_command platform command = if is_init command then [] else written_by platform command
+
+abbrev pub changed_by_line : Platform → Result (Option Command) WordFault → List ℕ
+changed_by_line platform (Ok (Some command)) = changed_by_command platform command
+changed_by_line platform (Ok None) = []
+changed_by_line platform (Err fault) = []
+
+-- the modules whose areas a command may initialise: those that it names and the platform has
+abbrev pub initialised_by_command : Platform → Command → List ℕ
+initialised_by_command platform command = if is_init command then written_by platform command else []
+
+abbrev pub initialised_by_line : Platform → Result (Option Command) WordFault → List ℕ
+initialised_by_line platform (Ok (Some command)) = initialised_by_command platform command
+initialised_by_line platform (Ok None) = []
+initialised_by_line platform (Err fault) = []
+
+abbrev pub changed_by : Platform → List (List ℕ) → List ℕ
+changed_by platform lines = flat_map (λ line. changed_by_line platform (command_in line)) lines
+
+abbrev pub initialised_by : Platform → List (List ℕ) → List ℕ
+initialised_by platform lines = flat_map (λ line. initialised_by_line platform (command_in line)) lines
+
+-- a module of the platform whose area a line may initialise, and it was Uninit
+pub record MayInitialise (platform : Platform) (lines : List (List ℕ)) (dimm : ℕ) (areas : Areas) : Type 0 where
+  pub named : is_among (initialised_by platform lines) dimm ≡ true
+  pub known : has_module platform dimm ≡ true
+  pub was_uninit : area_kind (get areas dimm) ≡ Uninit
+
+-- An area that no line changes has its bytes; or it was initialised, with two index blocks and behind them its bytes.
+abbrev pub KeepsBytes : Platform → List (List ℕ) → Areas → Areas → Type 0
+KeepsBytes platform lines areas now = (dimm : ℕ) → is_among (changed_by platform lines) dimm ≡ false
+    → (get now dimm ≡ get areas dimm)
+    ⊎ (MayInitialise platform lines dimm areas × (get now dimm ≡ get (initialised dimm areas) dimm))
+
+-- what a stop leaves of one: in a fair record one that was Uninit is so still, or is Ready without labels
+abbrev pub LeavesBytes : Platform → List (List ℕ) → Areas → CrashRecord → Type 0
+LeavesBytes platform lines areas c = (dimm : ℕ) → is_among (changed_by platform lines) dimm ≡ false
+    → (get c.areas dimm ≡ get areas dimm)
+    ⊎ (MayInitialise platform lines dimm areas
+    × (IsFair c → (area_kind (get c.areas dimm) ≡ Uninit) ⊎ IsVacant (get c.areas dimm) (slots_of (get areas dimm))))

@@ -1,0 +1,1 @@
+//! One line: its command is done, and its reply said.
