@@ -46,11 +46,16 @@ pub record MayInitialise (platform : Platform) (lines : List (List ℕ)) (dimm :
   pub known : has_module platform dimm ≡ true
   pub was_uninit : area_kind (get areas dimm) ≡ Uninit
 
--- An area that no line changes has its bytes; or it was initialised, with two index blocks and behind them its bytes.
-abbrev pub KeepsBytes : Platform → List (List ℕ) → Areas → Areas → Type 0
-KeepsBytes platform lines areas now = (dimm : ℕ) → is_among (changed_by platform lines) dimm ≡ false
-    → (get now dimm ≡ get areas dimm)
-    ⊎ (MayInitialise platform lines dimm areas × (get now dimm ≡ get (initialised dimm areas) dimm))
+-- The two index blocks of an area that was initialised were written, and behind them it has its bytes. Where the rig failed
+-- at an area it may be the one that was being written.
+abbrev pub IsWritten : Bool → ℕ → Areas → Areas → Type 0
+IsWritten true dimm areas now = Unit {0}
+IsWritten false dimm areas now = get now dimm ≡ get (initialised dimm areas) dimm
+
+-- An area that no line changes has its bytes, or it was initialised.
+abbrev pub KeepsBytes : Bool → Platform → List (List ℕ) → Areas → Areas → Type 0
+KeepsBytes failed platform lines areas now = (dimm : ℕ) → is_among (changed_by platform lines) dimm ≡ false
+    → (get now dimm ≡ get areas dimm) ⊎ (MayInitialise platform lines dimm areas × IsWritten failed dimm areas now)
 
 -- what a stop leaves of one: in a fair record one that was Uninit is so still, or is Ready without labels
 abbrev pub LeavesBytes : Platform → List (List ℕ) → Areas → CrashRecord → Type 0

@@ -3,7 +3,6 @@ use Rattle.std.specs.Prelude.{◌≡◌, ℕ, Bool, true, false, Result, Ok, Err
 use Rattle.rig_trait.specs.declared.shown.Shown.{Ghosts}
 use Rattle.rig_trait.specs.Faults.{counted}
 use Rattle.rig_trait.specs.Frames.{FailsAt}
-use Rattle.label_area.specs.Flips.{is_among}
 use Rattle.command_runs.specs.declared.faults.LineFault.{LineFault}
 use Rattle.command_runs.specs.declared.faults.LineFault.TheVariants.{Area, Memory, Say}
 
@@ -20,6 +19,13 @@ is_say (Ok value) = false
 is_say (Err (Area dimm)) = false
 is_say (Err Memory) = false
 is_say (Err Say) = true
+
+-- the rig failed at an area
+abbrev pub is_area : {T : Type 0} → Result T LineFault → Bool
+is_area (Ok value) = false
+is_area (Err (Area dimm)) = true
+is_area (Err Memory) = false
+is_area (Err Say) = false
 
 -- The first fault ends a list, so no other count rose.
 pub record HasCause {R T : Type 0} (m : Ghosts R) (old new : R) (result : Result T LineFault) : Type 0 where

@@ -8,7 +8,7 @@ ghost use Rattle.sessions.specs.Commands.{has_module};
 ghost use Rattle.sessions.specs.Sessions.{IsCurrent};
 ghost use Rattle.command_runs.specs.Areas.{KeepsBytes, LeavesBytes};
 ghost use Rattle.command_runs.specs.Ends.{Ends, run_of};
-ghost use Rattle.command_runs.specs.Faults.{HasCause, IsAmong};
+ghost use Rattle.command_runs.specs.Faults.{HasCause, IsAmong, is_area};
 ghost use Rattle.command_runs.specs.Stops.{IsLeft};
 
 use crate::faults::LineFault;
@@ -43,7 +43,7 @@ pub fn run_lines<R: Rig>(
         (R.said rig.old)) }
 
     // No other area is written, and `init-labels` writes its index blocks alone.
-    ensures bytes { IsCurrent R.Shown rig.old session.old → KeepsBytes session.old.platform
+    ensures bytes { IsCurrent R.Shown rig.old session.old → KeepsBytes (is_area result) session.old.platform
         (map (λ line. line.now) lines.now) (R.areas rig.old) (R.areas rig.new) }
     ensures bytes_left { IsCurrent R.Shown rig.old session.old → LeavesOnly R.Shown rig.old rig.new
         (LeavesBytes session.old.platform (map (λ line. line.now) lines.now) (R.areas rig.old)) }
@@ -52,5 +52,8 @@ pub fn run_lines<R: Rig>(
     ensures among { IsAmong (has_module session.old.platform) result }
     ensures goes_on { GoesOn R.Shown rig.old rig.new }
 {
+    if lines.is_empty() {
+        return Ok(false);
+    }
     Err(LineFault::Memory)
 }
