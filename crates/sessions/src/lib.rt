@@ -5,6 +5,7 @@
 mod commands;
 mod faults;
 mod session;
+mod views;
 
 pub use faults::{OpenFault, RunFault};
 pub use session::Session;
