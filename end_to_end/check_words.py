@@ -43,6 +43,12 @@ def commands():
         ("init-labels dimm=1".ljust(4096), ready),
         ("create-namespace region=2 size=4M", unknown_region(2)),
         (f"create-namespace uuid={UUID.upper()} sector-size=4096 mode=devdax name=db0 size=16G region=3", unknown_region(3)),
+        ("destroy-namespace region=2 namespace=db0", unknown_region(2)),
+        (f"destroy-namespace namespace={UUID} region=1", "refused unknown-namespace\n"),
+        ("rename-namespace region=2 namespace=db0 name=", unknown_region(2)),
+        (f"rename-namespace name=db1 namespace={UUID.upper()} region=3", unknown_region(3)),
+        (f"release-held dimm=2 uuid={UUID}", "refused unknown-dimm dimm=0x00000002\n"),
+        (f"release-held uuid={UUID.upper()} dimm=0x101", "refused not-held\n"),
         ("list", "ok namespaces=0\n"), ("list region=1", "ok namespaces=0\n"), ("list region=0xffff", unknown_region(65535)),
         ("list-regions", status + "ok regions=1\n"),
         ("list-free region=1", free((0, PART), largest=2 * PART)),
@@ -84,6 +90,13 @@ def faults():
         ("create-namespace size=1 region=2 Name=x", "key piece=3"), ("create-namespace uuid= uuid=", "twice key=uuid"),
         ("create-namespace sector-size=512 name=x sector-size", "key piece=3"), ("create-namespace name= name", "key piece=2"),
         ("create-namespace sector=512", "key piece=1"), ("create-namespace abstraction=raw", "key piece=1"),
+        ("destroy-namespace region=x", "missing key=namespace"), ("destroy-namespace namespace=/", "missing key=region"),
+        ("destroy-namespace region=2 name=x", "key piece=2"), ("rename-namespace region=x namespace=/", "missing key=name"),
+        ("rename-namespace name=/ region=x", "missing key=namespace"), ("rename-namespace uuid=x", "key piece=1"),
+        ("rename-namespace name= namespace= region=x", "value key=region"), ("release-held uuid=x dimm=x", "value key=dimm"),
+        ("rename-namespace name=/ namespace= region=2", "value key=namespace"), ("release-held region=1", "key piece=1"),
+        ("rename-namespace name=/ namespace=x region=2", "value key=name"), ("release-held uuid=x", "missing key=dimm"),
+        ("release-held dimm=x", "missing key=uuid"), ("release-held uuid= dimm=2", "value key=uuid"),
     )
     bad = ("region=x", "size=x", "name=/", "mode=x", "sector-size=x", "uuid=x")
     sound = ("region=2", "size=1", "name=x", "mode=raw", "sector-size=512")
@@ -112,7 +125,7 @@ def numbers():
 
 
 def values():
-    """Pieces of a namespace that is made, and whether their values are of their kinds."""
+    """Pieces with values of a namespace, and whether these are of their kinds."""
     yield from ((f"name={byte:c}", chr(byte) in NAME_CHARACTERS) for byte in range(0x21, 0x7f))
     yield from (
         ("name=", True), ("name=" + "x" * 63, True), ("name=" + "x" * 64, False), ("name=" + "." * 4000, False),
@@ -172,9 +185,17 @@ def rows():
         size = "refused words value key=size\n" if length is None else unknown_region(2)
         yield f"create-namespace region=2 size={text}", size
     for piece, is_of_its_kind in values():
-        key = piece.split("=")[0]
-        fault = f"refused words value key={key}\n"
-        yield f"create-namespace region=2 size=1 {piece}", unknown_region(2) if is_of_its_kind else fault
+        key, value = piece.split("=", 1)
+        answer = unknown_region(2) if is_of_its_kind else f"refused words value key={key}\n"
+        yield f"create-namespace region=2 size=1 {piece}", answer
+        if key == "name":
+            yield f"rename-namespace region=2 namespace=x {piece}", answer
+            tells = (is_of_its_kind or value.lower() == UUID) and value
+            answer = unknown_region(2) if tells else "refused words value key=namespace\n"
+            yield f"destroy-namespace region=2 namespace={value}", answer
+        if key == "uuid":
+            answer = "refused unknown-dimm dimm=0x00000002\n" if is_of_its_kind else answer
+            yield f"release-held dimm=2 {piece}", answer
     for text in ("4294979589", "00000000004294979589", "0x100003005", "0x0000000100003005"):
         yield f"to-module region=1 spa={text}", "ok dimm=0x00000101 dpa=0x0000000000001005\n"
     yield "to-module region=1 spa=0x10000aBcD", "ok dimm=0x00000001 dpa=0x0000000000005bcd\n"

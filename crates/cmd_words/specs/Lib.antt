@@ -3,6 +3,7 @@ pub mod Keys
 pub mod Numbers
 pub mod Uuids
 pub mod Names
+pub mod NameKeys
 pub mod Modes
 pub mod Values
 pub mod Commands

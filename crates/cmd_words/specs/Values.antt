@@ -2,13 +2,15 @@
 use Rattle.std.specs.Prelude.{ℕ, ◌^◌, List, Option, Some, None, Result, Ok, Err, ok_or}
 use Rattle.std.specs.Option.{option_and_then}
 use Rattle.view_types.specs.declared.key.Key as keys
-use Rattle.view_types.specs.declared.key.Key.TheVariants.{Region, Name, Mode, SectorSize, Uuid}
+use Rattle.view_types.specs.declared.key.Key.TheVariants.{Region, Name, Mode, SectorSize, Uuid, Namespace}
 use Rattle.view_types.specs.declared.mode.Mode as modes
 use Rattle.view_types.specs.declared.mode.Mode.TheVariants.{Raw}
 use Rattle.view_types.specs.declared.word_fault.WordFault.{WordFault}
 use Rattle.view_types.specs.declared.word_fault.WordFault.TheVariants.{Value}
+use Rattle.cmd_words.specs.declared.name_keys.NameKey.{NameKey}
 use Rattle.cmd_words.specs.Keys.{given}
 use Rattle.cmd_words.specs.Modes.{mode, sector_size}
+use Rattle.cmd_words.specs.NameKeys.{name_key}
 use Rattle.cmd_words.specs.Names.{empty_name, name}
 use Rattle.cmd_words.specs.Numbers.{below, number, size}
 use Rattle.cmd_words.specs.Uuids.{uuid}
@@ -24,6 +26,9 @@ size_for key pieces = ok_or (below (2 ^ 64) (option_and_then size (given key pie
 -- and as a value of another kind
 abbrev pub name_for : List (List ℕ) → Result (List ℕ) WordFault
 name_for pieces = ok_or (option_and_then name (given Name pieces)) (Value Name)
+
+abbrev pub namespace_for : List (List ℕ) → Result NameKey WordFault
+namespace_for pieces = ok_or (option_and_then name_key (given Namespace pieces)) (Value Namespace)
 
 abbrev pub mode_for : List (List ℕ) → Result modes.Mode WordFault
 mode_for pieces = ok_or (option_and_then mode (given Mode pieces)) (Value Mode)

@@ -4,9 +4,10 @@ ghost use Rattle.std.specs.Prelude.{◌≡◌};
 ghost use Rattle.cmd_words.specs.Commands.{command_of, keys_of, required_of, verb_of};
 ghost use Rattle.cmd_words.specs.Pieces.{pieces};
 
+use crate::name_keys::NameKey;
 use crate::values::{
-    address, dimm, mode_or_raw, name_or_empty, optional_region, optional_uuid, region,
-    sector_size_or_512, size,
+    address, dimm, mode_or_raw, name, name_or_empty, namespace, optional_region, optional_uuid,
+    region, sector_size_or_512, size, uuid,
 };
 use view_types::{Key, WordFault};
 
@@ -29,6 +30,23 @@ pub enum Command {
         /// The size of a sector in bytes.
         sector: u64,
         uuid: Option<[u8; 16]>,
+    },
+    /// The namespace that fits a key, in the region with an index, is taken away.
+    Destroy {
+        region: u16,
+        key: NameKey,
+    },
+    /// The namespace that fits a key, in the region with an index, gets a name, which may be empty.
+    Rename {
+        region: u16,
+        key: NameKey,
+        /// With zeros behind it.
+        name: [u8; 64],
+    },
+    /// The held labels with a uuid in the module with this device handle are given up.
+    ReleaseHeld {
+        dimm: u32,
+        uuid: [u8; 16],
     },
     /// The namespaces of a region, or of all regions that are Ready.
     ListSpaces {
@@ -68,6 +86,9 @@ pub enum Command {
 pub(crate) enum Verb {
     InitLabels,
     Create,
+    Destroy,
+    Rename,
+    ReleaseHeld,
     ListSpaces,
     ListRegions,
     ListFree,
@@ -85,6 +106,9 @@ impl Verb {
         match piece {
             "init-labels" => Some(Verb::InitLabels),
             "create-namespace" => Some(Verb::Create),
+            "destroy-namespace" => Some(Verb::Destroy),
+            "rename-namespace" => Some(Verb::Rename),
+            "release-held" => Some(Verb::ReleaseHeld),
             "list" => Some(Verb::ListSpaces),
             "list-regions" => Some(Verb::ListRegions),
             "list-free" => Some(Verb::ListFree),
@@ -110,6 +134,9 @@ impl Verb {
                 Key::SectorSize,
                 Key::Uuid,
             ],
+            Verb::Destroy => &[Key::Region, Key::Namespace],
+            Verb::Rename => &[Key::Region, Key::Namespace, Key::Name],
+            Verb::ReleaseHeld => &[Key::Dimm, Key::Uuid],
             Verb::ListSpaces | Verb::ListFree => &[Key::Region],
             Verb::ListRegions => &[],
             Verb::ToModule => &[Key::Region, Key::Spa],
@@ -136,6 +163,19 @@ impl Verb {
         match self {
             Verb::InitLabels => Ok(Command::InitLabels { dimm: dimm(text)? }),
             Verb::Create => create(text),
+            Verb::Destroy => Ok(Command::Destroy {
+                region: region(text)?,
+                key: namespace(text)?,
+            }),
+            Verb::Rename => Ok(Command::Rename {
+                region: region(text)?,
+                key: namespace(text)?,
+                name: name(text)?,
+            }),
+            Verb::ReleaseHeld => Ok(Command::ReleaseHeld {
+                dimm: dimm(text)?,
+                uuid: uuid(text)?,
+            }),
             Verb::ListSpaces => Ok(Command::ListSpaces {
                 region: optional_region(text)?,
             }),

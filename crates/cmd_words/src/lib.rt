@@ -5,6 +5,7 @@ mod commands;
 mod keys;
 mod lines;
 mod modes;
+mod name_keys;
 mod names;
 mod numbers;
 mod pieces;
@@ -13,6 +14,7 @@ mod values;
 
 pub use commands::Command;
 pub use lines::read_line;
+pub use name_keys::NameKey;
 pub use numbers::read_number;
 
 #[cfg(test)]

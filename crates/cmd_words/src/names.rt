@@ -23,7 +23,7 @@ pub(crate) fn read_name(text: &str) -> Option<[u8; NAME_BYTES]>
 }
 
 /// Whether a text has no more characters than a name, and only such as names have.
-fn is_name_text(text: &str) -> bool
+pub(crate) fn is_name_text(text: &str) -> bool
     ensures { result ≡ is_name_text text.now }
 {
     text.len() <= MOST_CHARACTERS && text.as_bytes().iter().all(|byte| is_name_character(*byte))
@@ -36,7 +36,7 @@ fn is_name_character(byte: u8) -> bool
 }
 
 /// A text with zeros behind it.
-fn with_zeros(text: &str) -> [u8; NAME_BYTES]
+pub(crate) fn with_zeros(text: &str) -> [u8; NAME_BYTES]
     requires { length text.now ≤ NAME_BYTES }
     ensures { result ≡ with_zeros text.now }
 {

@@ -93,9 +93,9 @@ fn longest_name() -> [u8; 64] {
     name
 }
 
-/// Namespaces that are made.
+/// Lines of commands that change namespaces.
 #[test]
-fn creates(rt: HostRuntime) {
+fn changes(rt: HostRuntime) {
     let lines = [
         ("create-namespace region=1 size=4M", PLAIN),
         (
@@ -112,6 +112,28 @@ fn creates(rt: HostRuntime) {
                 abstraction: PAGE_FRAMES,
                 sector: 4096,
                 uuid: Some(UUID),
+            },
+        ),
+        (
+            "destroy-namespace namespace=0F6B1A52-7c3e-4d28-9a41-5be0c7d2e813 region=1",
+            Command::Destroy {
+                region: 1,
+                key: NameKey::Uuid(UUID),
+            },
+        ),
+        (
+            "rename-namespace region=1 namespace=aZ._9999999999999999999999999999999999999999999999999999999999- name=",
+            Command::Rename {
+                region: 1,
+                key: NameKey::Name(longest_name()),
+                name: [0; 64],
+            },
+        ),
+        (
+            "release-held uuid=0f6b1a52-7c3e-4d28-9a41-5be0c7d2e813 dimm=0x101",
+            Command::ReleaseHeld {
+                dimm: 0x101,
+                uuid: UUID,
             },
         ),
     ];
@@ -196,6 +218,31 @@ fn faults(rt: HostRuntime) {
         ),
         (
             "create-namespace uuid=x size=1 region=1",
+            WordFault::Value { key: Key::Uuid },
+        ),
+        (
+            "rename-namespace region=x namespace=/",
+            WordFault::Missing { key: Key::Name },
+        ),
+        (
+            "rename-namespace name=/ namespace= region=1",
+            WordFault::Value {
+                key: Key::Namespace,
+            },
+        ),
+        (
+            "rename-namespace name=0f6b1a52-7c3e-4d28-9a41-5be0c7d2e813 namespace=x region=1",
+            WordFault::Value { key: Key::Name },
+        ),
+        (
+            "destroy-namespace region=1 namespace=1234567890123456789012345678901234567890123456789012345678901234",
+            WordFault::Value {
+                key: Key::Namespace,
+            },
+        ),
+        ("release-held dimm=1", WordFault::Missing { key: Key::Uuid }),
+        (
+            "release-held dimm=1 uuid=x",
             WordFault::Value { key: Key::Uuid },
         ),
     ];

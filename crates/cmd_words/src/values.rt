@@ -2,11 +2,12 @@
 
 ghost use Rattle.std.specs.Prelude.{◌≡◌, ◌+◌, ◌^◌};
 ghost use Rattle.cmd_words.specs.Pieces.{pieces};
-ghost use Rattle.cmd_words.specs.Values.{mode_or_raw, name_or_empty, number_for, optional_region, optional_uuid};
-ghost use Rattle.cmd_words.specs.Values.{sector_size_or_512, size_for, uuid_for};
+ghost use Rattle.cmd_words.specs.Values.{mode_or_raw, name_for, name_or_empty, namespace_for, number_for, optional_region};
+ghost use Rattle.cmd_words.specs.Values.{optional_uuid, sector_size_or_512, size_for, uuid_for};
 
 use crate::keys::given;
 use crate::modes::{read_mode, read_sector_size};
+use crate::name_keys::{NameKey, read_name_key};
 use crate::names::{NAME_BYTES, read_name};
 use crate::numbers::{read_number, read_size};
 use crate::uuids::read_uuid;
@@ -62,13 +63,33 @@ pub(crate) fn size(key: Key, text: &str) -> Result<u64, WordFault>
         .ok_or(WordFault::Value { key })
 }
 
+/// What a namespace is told by.
+pub(crate) fn namespace(text: &str) -> Result<NameKey, WordFault>
+    ensures { result ≡ namespace_for (pieces text.now) }
+{
+    given(Key::Namespace, text)
+        .and_then(read_name_key)
+        .ok_or(WordFault::Value {
+            key: Key::Namespace,
+        })
+}
+
+/// The name of a namespace.
+pub(crate) fn name(text: &str) -> Result<[u8; NAME_BYTES], WordFault>
+    ensures { result ≡ name_for (pieces text.now) }
+{
+    given(Key::Name, text)
+        .and_then(read_name)
+        .ok_or(WordFault::Value { key: Key::Name })
+}
+
 /// The name of a namespace, empty where no piece gives one.
 pub(crate) fn name_or_empty(text: &str) -> Result<[u8; NAME_BYTES], WordFault>
     ensures { result ≡ name_or_empty (pieces text.now) }
 {
     match given(Key::Name, text) {
         None => Ok([0; NAME_BYTES]),
-        Some(name) => read_name(name).ok_or(WordFault::Value { key: Key::Name }),
+        Some(_) => name(text),
     }
 }
 
@@ -95,7 +116,7 @@ pub(crate) fn sector_size_or_512(text: &str) -> Result<u64, WordFault>
 }
 
 /// A uuid.
-fn uuid(text: &str) -> Result<[u8; 16], WordFault>
+pub(crate) fn uuid(text: &str) -> Result<[u8; 16], WordFault>
     ensures { result ≡ uuid_for (pieces text.now) }
 {
     given(Key::Uuid, text)

@@ -2,5 +2,9 @@ pub mod Refusals
 pub mod Changes
 pub mod Initialise
 pub mod Create
+pub mod Namespaces
+pub mod Destroy
+pub mod Rename
+pub mod Release
 pub mod Steps
 pub mod Plain

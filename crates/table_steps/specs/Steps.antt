@@ -7,9 +7,12 @@ use Rattle.module_labels.specs.Labels.{Labels}
 use Rattle.region_map.specs.declared.platform.Platform.{Platform}
 use Rattle.label_table.specs.Tables.{State, state}
 use Rattle.table_steps.specs.declared.change.Change.{Change}
-use Rattle.table_steps.specs.declared.change.Change.TheVariants.{Create, InitLabels}
+use Rattle.table_steps.specs.declared.change.Change.TheVariants.{Create, Destroy, InitLabels, ReleaseHeld, Rename}
 use Rattle.table_steps.specs.Create.{Creates}
+use Rattle.table_steps.specs.Destroy.{Destroys}
 use Rattle.table_steps.specs.Initialise.{Initialises}
+use Rattle.table_steps.specs.Release.{Releases}
+use Rattle.table_steps.specs.Rename.{Renames}
 
 -- What the command does where the labels of the modules are these. `slots` is how many slots the area of each module
 -- has room for, by handle, and `own` the uuid of a new namespace for which the command gives none.
@@ -25,6 +28,9 @@ Does platform slots labels (Create region size name abstraction sector uuid) own
       sector = sector;
       uuid = unwrap_or uuid own;
     }) reply after
+Does platform slots labels (Destroy region key) own reply after = Destroys platform labels region key reply after
+Does platform slots labels (Rename region key name) own reply after = Renames platform labels region key name reply after
+Does platform slots labels (ReleaseHeld dimm uuid) own reply after = Releases platform labels dimm uuid reply after
 
 -- The step of a command from a state, which is that of some labels. Which labels does not matter: the laws say so.
 pub record IsStep (platform : Platform) (slots : ℕ → ℕ) (before : State) (change : Change) (own : List ℕ)

@@ -1,5 +1,7 @@
 //! The commands that change the label storage areas.
 
+use cmd_words::NameKey;
+
 /// A command that changes the label storage areas.
 #[derive(Clone, Copy, Debug, PartialEq, Eq)]
 pub enum Change {
@@ -16,6 +18,23 @@ pub enum Change {
         abstraction: [u8; 16],
         sector: u64,
         uuid: Option<[u8; 16]>,
+    },
+    /// The namespace that fits a key, in the region with an index, is taken away.
+    Destroy {
+        region: u16,
+        key: NameKey,
+    },
+    /// The namespace that fits a key, in the region with an index, gets a name, which may be empty.
+    Rename {
+        region: u16,
+        key: NameKey,
+        /// With zeros behind it.
+        name: [u8; 64],
+    },
+    /// The labels with a uuid that the module with this device handle holds are given up.
+    ReleaseHeld {
+        dimm: u32,
+        uuid: [u8; 16],
     },
 }
 

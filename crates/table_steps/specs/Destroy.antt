@@ -1,0 +1,48 @@
+-- `destroy-namespace`: the namespace of a region that fits a key is taken away.
+use Rattle.std.specs.Prelude.{◌≡◌, ℕ, List, [], ◌∷◌, Option, Some}
+use Rattle.view_types.specs.declared.refusal.Refusal.{Refusal}
+use Rattle.view_types.specs.declared.reply.Reply.{Reply}
+use Rattle.view_types.specs.declared.reply.Reply.TheVariants.{Destroyed}
+use Rattle.cmd_words.specs.declared.name_keys.NameKey.{NameKey}
+use Rattle.module_labels.specs.Labels.{Labels}
+use Rattle.region_map.specs.declared.platform.Platform.{Platform}
+use Rattle.region_map.specs.declared.platform.Region.{Region}
+use Rattle.region_map.specs.Platforms.{region_at}
+use Rattle.label_table.specs.Spaces.{Space}
+use Rattle.label_table.specs.Tables.{State, state, without_namespace}
+use Rattle.table_steps.specs.Changes.{IsDoneBy, without_marks}
+use Rattle.table_steps.specs.Namespaces.{ambiguous_in, fitting, read_only_in, unknown_in}
+use Rattle.table_steps.specs.Refusals.{by_region, first_of, no_slots, region_not_ready, unhealed, unknown_region, unusable}
+
+-- Each module needs a spare slot, for the labels that are written before any is freed.
+abbrev pub destroy_refusals : Platform → Labels → ℕ → NameKey → List (Option Refusal)
+destroy_refusals platform labels index key =
+    unknown_region platform index
+    ∷ unusable platform index
+    ∷ region_not_ready platform labels index
+    ∷ unhealed platform labels index
+    ∷ by_region platform index (unknown_in labels key)
+    ∷ by_region platform index (ambiguous_in labels key)
+    ∷ by_region platform index (read_only_in labels key)
+    ∷ no_slots platform labels 1 index
+    ∷ []
+
+-- The namespace is gone, and none of its region is pending. Each module of the region has a spare slot more.
+abbrev pub with_destroyed : Region → List ℕ → State → State
+with_destroyed region uuid before = without_marks region (without_namespace region uuid before)
+
+-- The only namespace that fits is taken away.
+pub record IsDestroyed (platform : Platform) (labels : Labels) (index : ℕ) (key : NameKey) (reply : Reply)
+    (after : State) : Type 0 where
+  pub region : Region
+  pub found : region_at platform index ≡ Some region
+  pub space : Space
+  pub only : fitting labels region key ≡ space ∷ []
+  pub after_is : after ≡ with_destroyed region space.uuid (state platform labels)
+  pub reply_is : reply ≡ Destroyed space.uuid
+
+-- The command.
+abbrev pub Destroys : Platform → Labels → ℕ → NameKey → Reply → State → Type 0
+Destroys platform labels index key reply after =
+    IsDoneBy (first_of (destroy_refusals platform labels index key)) (state platform labels)
+    (IsDestroyed platform labels index key) reply after
