@@ -1,5 +1,5 @@
 pub mod Telling
 pub mod Standing
-pub mod Creating
+pub mod Changing
 pub mod Initialising
 pub mod Success

@@ -104,11 +104,4 @@ pub can-create : {E : Type 0} (P : Platform) (slots : ℕ → ℕ) (L : Labels) 
     → IfOk result (λ reply. SaysIfKnown P command known (Does P slots L command own reply after)) → CanCreate P L command own → IfOk result HasCreated
 can-create P slots L (Create region size name abstraction sector uuid) own after known (Ok reply) step can = open-created P L _ can reply after step
 can-create P slots L (Create region size name abstraction sector uuid) own after known (Err fault) step can = tt
-can-create P slots L (InitLabels dimm) own after known result step can = absurd can
-can-create P slots L (ListSpaces region) own after known result step can = absurd can
-can-create P slots L ListRegions own after known result step can = absurd can
-can-create P slots L (ListFree region) own after known result step can = absurd can
-can-create P slots L (ListHeld dimm) own after known result step can = absurd can
-can-create P slots L (ToModule region spa) own after known result step can = absurd can
-can-create P slots L (ToSpa region dimm dpa) own after known result step can = absurd can
-can-create P slots L (ToRuns region spa len) own after known result step can = absurd can
+can-create P slots L _ own after known result step can = absurd can

@@ -15,8 +15,8 @@ use Rattle.label_table.specs.Tables.{State, state, table}
 use Rattle.table_steps.specs.declared.change.Change.TheVariants as changes
 use Rattle.table_steps.specs.Steps as steps
 use Rattle.cmd_words.specs.declared.commands.Command.{Command}
-use Rattle.cmd_words.specs.declared.commands.Command.TheVariants.{InitLabels, Create, ListSpaces, ListRegions, ListFree, ListHeld}
-use Rattle.cmd_words.specs.declared.commands.Command.TheVariants.{ToModule, ToSpa, ToRuns}
+use Rattle.cmd_words.specs.declared.commands.Command.TheVariants.{InitLabels, Create, Destroy, Rename, ReleaseHeld}
+use Rattle.cmd_words.specs.declared.commands.Command.TheVariants.{ListSpaces, ListRegions, ListFree, ListHeld, ToModule, ToSpa, ToRuns}
 use Rattle.namespace_core.specs.declared.lists.Query.TheVariants.{Spaces, Regions, Free, Held}
 use Rattle.namespace_core.specs.Create.{modules_of}
 use Rattle.namespace_core.specs.Lists.{IsShown}
@@ -37,6 +37,12 @@ Does platform slots labels (InitLabels dimm) own reply after =
     steps.Does platform slots labels (changes.InitLabels dimm) own reply after
 Does platform slots labels (Create region size name abstraction sector uuid) own reply after =
     steps.Does platform slots labels (changes.Create region size name abstraction sector uuid) own reply after
+Does platform slots labels (Destroy region key) own reply after =
+    steps.Does platform slots labels (changes.Destroy region key) own reply after
+Does platform slots labels (Rename region key name) own reply after =
+    steps.Does platform slots labels (changes.Rename region key name) own reply after
+Does platform slots labels (ReleaseHeld dimm uuid) own reply after =
+    steps.Does platform slots labels (changes.ReleaseHeld dimm uuid) own reply after
 Does platform slots labels (ListSpaces region) own reply after =
     Tells platform labels (IsShown platform labels (Spaces region)) reply after
 Does platform slots labels ListRegions own reply after =
@@ -67,14 +73,7 @@ IsBeforeOrAfter platform slots before command own labels = (table platform label
 
 abbrev pub is_init : Command → Bool
 is_init (InitLabels dimm) = true
-is_init (Create region size name abstraction sector uuid) = false
-is_init (ListSpaces region) = false
-is_init ListRegions = false
-is_init (ListFree region) = false
-is_init (ListHeld dimm) = false
-is_init (ToModule region spa) = false
-is_init (ToSpa region dimm dpa) = false
-is_init (ToRuns region spa len) = false
+is_init _ = false
 
 -- the platform has a module with this handle
 abbrev pub has_module : Platform → ℕ → Bool
@@ -84,26 +83,16 @@ has_module platform dimm = list_any (λ handle. handle == dimm) platform.modules
 -- are kept, or where the platform has no such module. The other commands look at no area.
 abbrev pub SaysIfKnown : Platform → Command → Type 0 → Type 0 → Type 0
 SaysIfKnown platform (InitLabels dimm) known fact = known ⊎ (has_module platform dimm ≡ false) → fact
-SaysIfKnown platform (Create region size name abstraction sector uuid) known fact = fact
-SaysIfKnown platform (ListSpaces region) known fact = fact
-SaysIfKnown platform ListRegions known fact = fact
-SaysIfKnown platform (ListFree region) known fact = fact
-SaysIfKnown platform (ListHeld dimm) known fact = fact
-SaysIfKnown platform (ToModule region spa) known fact = fact
-SaysIfKnown platform (ToSpa region dimm dpa) known fact = fact
-SaysIfKnown platform (ToRuns region spa len) known fact = fact
+SaysIfKnown platform _ known fact = fact
 
 -- the modules whose areas a command may write
 abbrev pub written_by : Platform → Command → List ℕ
 written_by platform (InitLabels dimm) = dimm ∷ []
 written_by platform (Create region size name abstraction sector uuid) = modules_of platform region
-written_by platform (ListSpaces region) = []
-written_by platform ListRegions = []
-written_by platform (ListFree region) = []
-written_by platform (ListHeld dimm) = []
-written_by platform (ToModule region spa) = []
-written_by platform (ToSpa region dimm dpa) = []
-written_by platform (ToRuns region spa len) = []
+written_by platform (Destroy region key) = modules_of platform region
+written_by platform (Rename region key name) = modules_of platform region
+written_by platform (ReleaseHeld dimm uuid) = dimm ∷ []
+written_by platform _ = []
 
 -- the reply to a command that changed the state
 abbrev pub is_change : Reply → Bool
@@ -129,26 +118,12 @@ pub record Initialises (dimm : ℕ) (areas now : Areas) (result : Result Reply R
 
 abbrev pub HasAreas : Command → Areas → Areas → Result Reply RunFault → Type 0
 HasAreas (InitLabels dimm) areas now result = Initialises dimm areas now result
-HasAreas (Create region size name abstraction sector uuid) areas now result = Unit {0}
-HasAreas (ListSpaces region) areas now result = Unit {0}
-HasAreas ListRegions areas now result = Unit {0}
-HasAreas (ListFree region) areas now result = Unit {0}
-HasAreas (ListHeld dimm) areas now result = Unit {0}
-HasAreas (ToModule region spa) areas now result = Unit {0}
-HasAreas (ToSpa region dimm dpa) areas now result = Unit {0}
-HasAreas (ToRuns region spa len) areas now result = Unit {0}
+HasAreas _ areas now result = Unit {0}
 
 -- what a stop within `init-labels` leaves of the bytes of areas
 abbrev pub LeavesArea : Command → Areas → List ℕ → CrashRecord → Type 0
 LeavesArea (InitLabels dimm) areas said c = LeftByInit areas said dimm c
-LeavesArea (Create region size name abstraction sector uuid) areas said c = Unit {0}
-LeavesArea (ListSpaces region) areas said c = Unit {0}
-LeavesArea ListRegions areas said c = Unit {0}
-LeavesArea (ListFree region) areas said c = Unit {0}
-LeavesArea (ListHeld dimm) areas said c = Unit {0}
-LeavesArea (ToModule region spa) areas said c = Unit {0}
-LeavesArea (ToSpa region dimm dpa) areas said c = Unit {0}
-LeavesArea (ToRuns region spa len) areas said c = Unit {0}
+LeavesArea _ areas said c = Unit {0}
 
 -- the state may have changed, or an area: by a command that changes areas, unless it is refused or wants memory
 abbrev pub result_changes : Result Reply RunFault → Bool
@@ -160,10 +135,7 @@ result_changes (Err Spent) = false
 abbrev pub may_change : Command → Result Reply RunFault → Bool
 may_change (InitLabels dimm) result = result_changes result
 may_change (Create region size name abstraction sector uuid) result = result_changes result
-may_change (ListSpaces region) result = false
-may_change ListRegions result = false
-may_change (ListFree region) result = false
-may_change (ListHeld dimm) result = false
-may_change (ToModule region spa) result = false
-may_change (ToSpa region dimm dpa) result = false
-may_change (ToRuns region spa len) result = false
+may_change (Destroy region key) result = result_changes result
+may_change (Rename region key name) result = result_changes result
+may_change (ReleaseHeld dimm uuid) result = result_changes result
+may_change _ result = false

@@ -18,8 +18,7 @@ use Rattle.label_table.specs.Statuses.{RegionReady, status}
 use Rattle.table_steps.specs.declared.change.NewNamespace.{NewNamespace}
 use Rattle.table_steps.specs.Create.{is_named, is_unnamed, keeps_uuid, size_unit}
 use Rattle.cmd_words.specs.declared.commands.Command.{Command}
-use Rattle.cmd_words.specs.declared.commands.Command.TheVariants.{InitLabels, Create, ListSpaces, ListRegions, ListFree, ListHeld}
-use Rattle.cmd_words.specs.declared.commands.Command.TheVariants.{ToModule, ToSpa, ToRuns}
+use Rattle.cmd_words.specs.declared.commands.Command.TheVariants.{Create}
 
 -- A region has room for a namespace: it is Ready, the size is above 0 and a multiple of 2 MiB of each member, the name is
 -- empty or new in the region, no label that is not dead has the uuid, the free extents are large enough, and each member
@@ -38,7 +37,6 @@ pub record IsOpenFor (platform : Platform) (labels : Labels) (asked : NewNamespa
 
 -- the command is a create, and there is room for its namespace
 abbrev pub CanCreate : Platform → Labels → Command → List ℕ → Type 0
-CanCreate platform labels (InitLabels dimm) own = ⊥
 CanCreate platform labels (Create region size name abstraction sector uuid) own = IsOpenFor platform labels (record {
   region = region;
   size = size;
@@ -47,26 +45,9 @@ CanCreate platform labels (Create region size name abstraction sector uuid) own 
   sector = sector;
   uuid = unwrap_or uuid own;
 })
-CanCreate platform labels (ListSpaces region) own = ⊥
-CanCreate platform labels ListRegions own = ⊥
-CanCreate platform labels (ListFree region) own = ⊥
-CanCreate platform labels (ListHeld dimm) own = ⊥
-CanCreate platform labels (ToModule region spa) own = ⊥
-CanCreate platform labels (ToSpa region dimm dpa) own = ⊥
-CanCreate platform labels (ToRuns region spa len) own = ⊥
+CanCreate platform labels _ own = ⊥
 
 -- a namespace was made
 abbrev pub HasCreated : Reply → Type 0
 HasCreated (replies.Created uuid region offset len size spare) = Unit {0}
-HasCreated (replies.Initialised dimm slots) = ⊥
-HasCreated (replies.Destroyed uuid) = ⊥
-HasCreated (replies.Renamed uuid name) = ⊥
-HasCreated (replies.Released labels) = ⊥
-HasCreated (replies.Namespaces spaces) = ⊥
-HasCreated (replies.Regions regions) = ⊥
-HasCreated (replies.Free extents most) = ⊥
-HasCreated (replies.HeldList held spare) = ⊥
-HasCreated (replies.Module dimm dpa) = ⊥
-HasCreated (replies.Spa spa) = ⊥
-HasCreated (replies.Runs runs) = ⊥
-HasCreated (replies.Refused refusal) = ⊥
+HasCreated _ = ⊥

@@ -11,7 +11,9 @@ ghost use Rattle.sessions.specs.Done.{IsDone, init_answer, init_refusal, run_by,
 
 use cmd_words::Command;
 use label_sets::{SetInitFault, Sets};
-use namespace_core::{ChangeFault, Query, create, show, to_module, to_runs, to_spa};
+use namespace_core::{
+    ChangeFault, Query, create, destroy, release_held, rename, show, to_module, to_runs, to_spa,
+};
 use region_map::Platform;
 use rig_trait::Rig;
 use std::alloc::{AllocError, Global};
@@ -53,6 +55,13 @@ pub(crate) fn do_command<R: Rig>(
                 uuid,
             };
             create(alloc, rig, platform, sets, &asked)
+        }
+        Command::Destroy { region, key } => destroy(alloc, rig, platform, sets, region, &key),
+        Command::Rename { region, key, name } => {
+            rename(alloc, rig, platform, sets, region, &key, &name)
+        }
+        Command::ReleaseHeld { dimm, uuid } => {
+            release_held(alloc, rig, platform, sets, dimm, &uuid)
         }
         Command::ListSpaces { region } => {
             told(show(alloc, platform, sets, Query::Spaces { region }))

@@ -7,7 +7,7 @@ ghost use Rattle.nfit_tables.specs.Proper.{IsProper};
 ghost use Rattle.sessions.specs.Sessions.{IsCurrent};
 
 use super::*;
-use cmd_words::Command;
+use cmd_words::{Command, NameKey};
 use nfit_tables::{Nfit, read_nfit};
 use region_map::Platform;
 use rig_trait::{FileRig, Kept, MemoryRig, Rig, Shown};
@@ -607,6 +607,8 @@ enum Earlier {
     Staged,
     /// Within the second pass.
     Healing,
+    /// It was not stopped.
+    Finished,
 }
 
 impl Earlier {
@@ -619,6 +621,7 @@ impl Earlier {
             Earlier::Staging => Some((2 * ways + 2, Left::New)),
             Earlier::Staged => Some((2 * ways + 1, Left::New)),
             Earlier::Healing => Some((ways, Left::Unsigned)),
+            Earlier::Finished => Some((1, Left::New)),
         }
     }
 }
@@ -777,6 +780,126 @@ fn stops_of_init(rt: HostRuntime) -> Result<(), Fail> {
         done.stops(&rt, alloc, &setting, 1)?;
         let command = Command::InitLabels { dimm };
         done.faults(&rt, alloc, &setting, &mut silent, &command, 1)?;
+    }
+    Ok(())
+}
+
+/// The namespace of an earlier create, which was stopped then, before a command that changes it.
+const CHANGED: [(Earlier, Spaces); 3] = [
+    (Earlier::Finished, &[(EARLIER, false)]),
+    (Earlier::Staged, &[(EARLIER, true)]),
+    (Earlier::Healing, &[(EARLIER, true)]),
+];
+
+fn destroy() -> Command {
+    Command::Destroy {
+        region: 1,
+        key: NameKey::Uuid(uuid_of(EARLIER)),
+    }
+}
+
+fn rename() -> Command {
+    Command::Rename {
+        region: 1,
+        key: NameKey::Name(name(&[EARLIER])),
+        name: name(b"new"),
+    }
+}
+
+/// The command that the reply is to was accepted, and names the namespace of an earlier create.
+fn names_earlier(reply: &Reply) -> bool {
+    match *reply {
+        Reply::Destroyed { uuid } => uuid == uuid_of(EARLIER),
+        Reply::Renamed {
+            uuid,
+            name: new_name,
+        } => uuid == uuid_of(EARLIER) && new_name == name(b"new"),
+        _ => false,
+    }
+}
+
+/// A command on the namespace of an earlier create is stopped at each write, and each of its calls fails in turn. By the
+/// last but so many writes the table is the one behind it.
+fn change_each(
+    rt: &impl Abort,
+    alloc: Global,
+    setting: &Setting,
+    silent: &mut FileRig,
+    command: &Command,
+    behind: u64,
+    after: Spaces,
+) -> Result<(), Fail> {
+    for (earlier, before) in CHANGED {
+        let rig = left_rig(alloc, setting, 0, earlier)?;
+        let done = Done::of(alloc, setting, rig, command)?;
+        assert!(rt; tell(&done.before, setting.ways, before));
+        assert!(rt; names_earlier(&done.reply) && tell(&done.after, setting.ways, after));
+        done.stops(rt, alloc, setting, behind)?;
+        done.faults(rt, alloc, setting, silent, command, behind)?;
+    }
+    Ok(())
+}
+
+/// It is gone from the first label on that is freed.
+#[test]
+fn stops_of_destroys(rt: HostRuntime) -> Result<(), Fail> {
+    let alloc = rt.alloc();
+    let mut silent = FileRig::new(rt, alloc, ".")?;
+    for ways in WAYS {
+        let setting = Setting::of(alloc, ways)?;
+        let behind = u64::from(ways).saturating_sub(1);
+        change_each(&rt, alloc, &setting, &mut silent, &destroy(), behind, &[])?;
+    }
+    Ok(())
+}
+
+/// It has its new name from the first flip on.
+#[test]
+fn stops_of_renames(rt: HostRuntime) -> Result<(), Fail> {
+    let alloc = rt.alloc();
+    let mut silent = FileRig::new(rt, alloc, ".")?;
+    for ways in WAYS {
+        let setting = Setting::of(alloc, ways)?;
+        let behind = 2 * u64::from(ways);
+        change_each(&rt, alloc, &setting, &mut silent, &rename(), behind, &[(EARLIER, false)])?;
+    }
+    Ok(())
+}
+
+/// The first module gives up its label of a namespace whose last module was replaced.
+fn released(rt: &impl Abort, alloc: Global, setting: &Setting, command: &Command) -> Result<Done, Fail> {
+    let mut rig = left_rig(alloc, setting, 0, Earlier::Finished)?;
+    let last = handle(setting.ways.saturating_sub(1));
+    rig.add(last, ready_area(alloc, 1, &[0xee; 256])?)?;
+    let done = Done::of(alloc, setting, rig, command)?;
+    assert!(rt; matches!(done.reply, Reply::Released { labels: 1 }));
+    assert!(rt; held_in(&done.before, 0) == 1 && held_in(&done.after, 0) == 0);
+    assert!(rt; held_in(&done.after, 1) == usize::from(setting.ways > 2));
+    Ok(done)
+}
+
+/// How many labels the module at a position holds.
+fn held_in(replies: &[Reply], position: usize) -> usize {
+    match replies.get(position.saturating_add(2)) {
+        Some(Reply::HeldList { held, .. }) => held.len(),
+        _ => usize::MAX,
+    }
+}
+
+/// They are gone by one write.
+#[test]
+fn stops_of_releases(rt: HostRuntime) -> Result<(), Fail> {
+    let alloc = rt.alloc();
+    let mut silent = FileRig::new(rt, alloc, ".")?;
+    let command = Command::ReleaseHeld {
+        dimm: handle(0),
+        uuid: uuid_of(EARLIER),
+    };
+    for ways in [2, 3, 16] {
+        let setting = Setting::of(alloc, ways)?;
+        let done = released(&rt, alloc, &setting, &command)?;
+        done.stops(&rt, alloc, &setting, 0)?;
+        done.faults(&rt, alloc, &setting, &mut silent, &command, 0)?;
     }
     Ok(())
 }

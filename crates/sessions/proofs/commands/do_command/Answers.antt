@@ -3,13 +3,18 @@ use Rattle.std.specs.Option.{unwrap_or}
 use Rattle.view_types.specs.declared.reply.Reply.{Reply}
 use Rattle.cmd_words.specs.declared.commands.Command.{Command}
 use Rattle.cmd_words.specs.declared.commands.Command.TheVariants as commands
+use Rattle.label_sets.specs.Init.{slots_at}
 use Rattle.label_sets.specs.Sets.{labels_in}
 use Rattle.namespace_core.specs.declared.creation.ChangeFault.{ChangeFault}
 use Rattle.namespace_core.specs.declared.lists.Query.TheVariants.{Spaces, Regions, Free, Held}
+use Rattle.namespace_core.specs.Create.{modules_of}
 use Rattle.namespace_core.specs.Lists.{IsShown}
 use Rattle.namespace_core.specs.Translations.{AreToRuns, IsToModule, IsToSpa}
 use Rattle.sessions.specs.Done.{IsDone, run_by}
-use Rattle.sessions.proofs.Creating.{HasCreate, create-is-done}
+use Rattle.table_steps.specs.Create.{Creates}
+use Rattle.table_steps.specs.Destroy.{Destroys}
+use Rattle.table_steps.specs.Rename.{Renames}
+use Rattle.sessions.proofs.Changing.{HasChange, change-is-done, create-change, destroy-change, rename-change}
 use Rattle.sessions.proofs.Telling.{tells-done, tells-of}
 use Rattle.sessions.proofs.commands.do_command.Goals as goal
 
@@ -21,16 +26,26 @@ returns-in-InitLabels g c =
 pub returns-in-Create : goal.returns-in-Create
 returns-in-Create g c =
     let m = c.in-Create in
+    let P = c.args.platform.now in
+    let L = labels_in c.args.sets.now in
     let uuid_is : c.unwrap_or-uuid.result ≡ unwrap_or m.uuid c.args.own.now = c.unwrap_or-uuid.ensures ∙ ap (unwrap_or m.uuid) c.as_bytes.ensures in
-    subst (λ (command : Command). IsDone g.R.Shown c.args.platform.now command c.args.own.now c.args.sets.now c.args.rig.now c.create.new.sets c.create.new.rig (run_by c.create.result))
-    (sym m.is) (create-is-done g.R.Shown c.args.platform.now c.requires.sound c.args.sets.now c.requires.state m.region m.size m.name m.abstraction m.sector m.uuid c.args.own.now c.args.rig.now c.create.new.sets c.create.new.rig c.create.result (subst (λ (uuid : List ℕ). HasCreate g.R.Shown c.args.platform.now (record {
+    subst (λ (command : Command). IsDone g.R.Shown P command c.args.own.now c.args.sets.now c.args.rig.now c.create.new.sets c.create.new.rig (run_by c.create.result)) (sym m.is)
+    (change-is-done g.R.Shown P c.args.sets.now c.requires.state (commands.Create m.region m.size m.name m.abstraction m.sector m.uuid) c.args.own.now (modules_of P m.region) (Creates P L (record {
+      region = m.region;
+      size = m.size;
+      name = m.name;
+      abstraction = m.abstraction;
+      sector = m.sector;
+      uuid = unwrap_or m.uuid c.args.own.now;
+    })) (create-change P c.requires.sound (slots_at c.args.sets.now) L c.args.own.now m.region m.size m.name m.abstraction m.sector m.uuid) c.args.rig.now c.create.new.sets c.create.new.rig c.create.result
+    (subst (λ (uuid : List ℕ). HasChange g.R.Shown P (modules_of P m.region) (Creates P L (record {
       region = m.region;
       size = m.size;
       name = m.name;
       abstraction = m.abstraction;
       sector = m.sector;
       uuid = uuid;
-    }) c.args.sets.now c.args.rig.now c.create.new.sets c.create.new.rig c.create.result) uuid_is (record {
+    })) c.args.sets.now c.args.rig.now c.create.new.sets c.create.new.rig c.create.result) uuid_is (record {
       step = c.create.ensures.step;
       refused = c.create.ensures.refused;
       unwritten = c.create.ensures.unwritten;
@@ -45,6 +60,52 @@ returns-in-Create g c =
       cause = c.create.ensures.cause;
       reads = c.create.ensures.reads;
     })))
+
+pub returns-in-Destroy : goal.returns-in-Destroy
+returns-in-Destroy g c =
+    let m = c.in-Destroy in
+    let P = c.args.platform.now in
+    let L = labels_in c.args.sets.now in
+    subst (λ (command : Command). IsDone g.R.Shown P command c.args.own.now c.args.sets.now c.args.rig.now c.destroy.new.sets c.destroy.new.rig (run_by c.destroy.result)) (sym m.is)
+    (change-is-done g.R.Shown P c.args.sets.now c.requires.state (commands.Destroy m.region m.key) c.args.own.now (modules_of P m.region) (Destroys P L m.region m.key)
+    (destroy-change P c.requires.sound (slots_at c.args.sets.now) L c.args.own.now m.region m.key) c.args.rig.now c.destroy.new.sets c.destroy.new.rig c.destroy.result (record {
+      step = c.destroy.ensures.step;
+      refused = c.destroy.ensures.refused;
+      unwritten = c.destroy.ensures.unwritten;
+      memory = c.destroy.ensures.memory;
+      unwritten_memory = c.destroy.ensures.unwritten_memory;
+      regions = c.destroy.ensures.regions;
+      dimms = c.destroy.ensures.dimms;
+      sizes = c.destroy.ensures.sizes;
+      stands = λ stand. c.destroy.ensures.stands stand.0 stand.1;
+      any_moment = λ stand. c.destroy.ensures.any_moment stand.0 stand.1;
+      writes_among = c.destroy.ensures.writes_among;
+      cause = c.destroy.ensures.cause;
+      reads = c.destroy.ensures.reads;
+    }))
+
+pub returns-in-Rename : goal.returns-in-Rename
+returns-in-Rename g c =
+    let m = c.in-Rename in
+    let P = c.args.platform.now in
+    let L = labels_in c.args.sets.now in
+    subst (λ (command : Command). IsDone g.R.Shown P command c.args.own.now c.args.sets.now c.args.rig.now c.rename.new.sets c.rename.new.rig (run_by c.rename.result)) (sym m.is)
+    (change-is-done g.R.Shown P c.args.sets.now c.requires.state (commands.Rename m.region m.key m.name) c.args.own.now (modules_of P m.region) (Renames P L m.region m.key m.name)
+    (rename-change P c.requires.sound (slots_at c.args.sets.now) L c.args.own.now m.region m.key m.name) c.args.rig.now c.rename.new.sets c.rename.new.rig c.rename.result (record {
+      step = c.rename.ensures.step;
+      refused = c.rename.ensures.refused;
+      unwritten = c.rename.ensures.unwritten;
+      memory = c.rename.ensures.memory;
+      unwritten_memory = c.rename.ensures.unwritten_memory;
+      regions = c.rename.ensures.regions;
+      dimms = c.rename.ensures.dimms;
+      sizes = c.rename.ensures.sizes;
+      stands = λ stand. c.rename.ensures.stands stand.0 stand.1;
+      any_moment = λ stand. c.rename.ensures.any_moment stand.0 stand.1;
+      writes_among = c.rename.ensures.writes_among;
+      cause = c.rename.ensures.cause;
+      reads = c.rename.ensures.reads;
+    }))
 
 pub returns-in-ListSpaces : goal.returns-in-ListSpaces
 returns-in-ListSpaces g c =
