@@ -1,5 +1,5 @@
 -- The namespaces of a region that a command's key tells from the others.
-use Rattle.std.specs.Prelude.{ℕ, nat_lt, Bool, List, [], ◌∷◌, Option, Some, None, filter, length}
+use Rattle.std.specs.Prelude.{nat_lt, Bool, List, [], ◌∷◌, Option, Some, None, filter, length}
 use Rattle.std.specs.Str.{bytes_eq}
 use Rattle.view_types.specs.declared.refusal.Refusal.{Refusal}
 use Rattle.view_types.specs.declared.refusal.Refusal.TheVariants.{Ambiguous, ReadOnly, UnknownNamespace}
