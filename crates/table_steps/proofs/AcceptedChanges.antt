@@ -22,7 +22,7 @@ use Rattle.label_table.proofs.ListTests.{Contains-here, both, lt_from, never, so
 use Rattle.label_table.proofs.WholeUuids.{IsLed, whole-led}
 use Rattle.table_steps.specs.Create.{is_named, is_unnamed}
 use Rattle.table_steps.specs.Destroy.{destroy_refusals, destroy_refusals_in}
-use Rattle.table_steps.specs.Namespaces.{ambiguous_among, ambiguous_in, fits, fitting, read_only_among, read_only_in, unknown_among, unknown_in}
+use Rattle.table_steps.specs.Namespaces.{IsOneToChange, ambiguous_among, ambiguous_in, fits, fitting, read_only_among, read_only_in, unknown_among, unknown_in}
 use Rattle.table_steps.specs.Refusals.{first_below, first_of, no_slots_in, not_ready_by, refused_if}
 use Rattle.table_steps.specs.Rename.{is_other_named, name_taken_beside, rename_refusals, rename_refusals_in}
 use Rattle.table_steps.proofs.Accepted.{ready-unless}
@@ -51,17 +51,47 @@ have-spare P L least r none x in_r = by (cases_lt (spare P L x.handle) least)
     by (inl lt) = never (nat_lt (spare P L x.handle) least) (lt_from (spare P L x.handle) least lt) enough
     by (inr le) = le
 
--- one namespace fits the key, and may be changed
-pub record IsOneToChange (L : Labels) (r : Region) (key : NameKey) (own : Space) : Type 0 where
-  pub only : fitting L r key ≡ own ∷ []
-  pub writable : own.read_only ≡ false
+-- The one namespace that fits a key.
+module _ (L : Labels) (r : Region) (key : NameKey) (own : Space) (only : fitting L r key ≡ own ∷ []) where
+  own-found : Contains (namespaces L r) own × (fits key own ≡ true)
+  own-found = filter-from (fits key) (namespaces L r) own (subst (λ spaces. Contains spaces own) (sym only) (Contains-here own []))
+
+  pub own-listed : Contains (namespaces L r) own
+  own-listed = own-found.0
+
+  pub own-fits : fits key own ≡ true
+  own-fits = own-found.1
+
+  pub own-stands : space L r own.uuid ≡ Some own
+  own-stands = namespaces-from L r own own-listed
+
+  pub own-whole : is_whole L r own.uuid ≡ true
+  own-whole = space-whole L r own.uuid own own-stands
+
+  pub own-alone : (t : Space) → Contains (namespaces L r) t → fits key t ≡ true → t ≡ own
+  own-alone t in_r fit = filter-only (fits key) (namespaces L r) own only t in_r fit
+
+  pub own-writable : own.read_only ≡ false → any_read_only r (labels_with own.uuid L) ≡ false
+  own-writable writable =
+      let led : IsLed r (labels_with own.uuid L) = whole-led r (labels_with own.uuid L) own-whole in
+      ap (λ (t : Space). t.read_only) (some_is (sym led.space_is ∙ own-stands)) ∙ writable
 
 one-fits : (L : Labels) (r : Region) (key : NameKey) → unknown_in L key r ≡ None → ambiguous_in L key r ≡ None → read_only_in L key r ≡ None → (own : Space) × IsOneToChange L r key own
 one-fits L r key some few writable = by (fitting L r key) refl some few writable
   where
     by : (spaces : List Space) → fitting L r key ≡ spaces → unknown_among spaces ≡ None → ambiguous_among spaces ≡ None → read_only_among spaces ≡ None → (own : Space) × IsOneToChange L r key own
     by [] is some few writable = absurd cc
-    by (own ∷ []) is some few writable = (own, record { only = is; writable = unapplied own.read_only (ReadOnly own.uuid) writable })
+    by (own ∷ []) is some few writable =
+        let may_change : own.read_only ≡ false = unapplied own.read_only (ReadOnly own.uuid) writable in (
+          own,
+          record {
+            only = is;
+            stands = own-stands L r key own is;
+            whole = own-whole L r key own is;
+            writable = may_change;
+            none_read_only = own-writable L r key own is may_change;
+          },
+        )
     by (own ∷ other ∷ rest) is some few writable =
         never (nat_lt 1 (length (own ∷ other ∷ rest))) (lt_from 1 (length (own ∷ other ∷ rest)) (omega arith))
         (unapplied (nat_lt 1 (length (own ∷ other ∷ rest))) (Ambiguous (length (own ∷ other ∷ rest))) few)
@@ -118,25 +148,3 @@ unrefused-rename P L index key name r found none = record {
 
     change : IsUnrefusedChange P L key r
     change = unrefused-change P L key r all.1.0 all.1.1.0 all.1.1.1.1.0 all.1.1.1.1.1.0 all.1.1.1.1.1.1.0 all.1.1.1.1.1.1.1.1.0
-
--- The one namespace that fits a key.
-module _ (L : Labels) (r : Region) (key : NameKey) (own : Space) (only : fitting L r key ≡ own ∷ []) where
-  own-fits : Contains (namespaces L r) own × (fits key own ≡ true)
-  own-fits = filter-from (fits key) (namespaces L r) own (subst (λ spaces. Contains spaces own) (sym only) (Contains-here own []))
-
-  pub own-listed : Contains (namespaces L r) own
-  own-listed = own-fits.0
-
-  pub own-stands : space L r own.uuid ≡ Some own
-  own-stands = namespaces-from L r own own-listed
-
-  pub own-whole : is_whole L r own.uuid ≡ true
-  own-whole = space-whole L r own.uuid own own-stands
-
-  pub own-alone : (t : Space) → Contains (namespaces L r) t → fits key t ≡ true → t ≡ own
-  own-alone t in_r fit = filter-only (fits key) (namespaces L r) own only t in_r fit
-
-  pub own-writable : own.read_only ≡ false → any_read_only r (labels_with own.uuid L) ≡ false
-  own-writable writable =
-      let led : IsLed r (labels_with own.uuid L) = whole-led r (labels_with own.uuid L) own-whole in
-      ap (λ (t : Space). t.read_only) (some_is (sym led.space_is ∙ own-stands)) ∙ writable

@@ -35,7 +35,7 @@ pub destroyed-is : (r : Region) (u : List ℕ) (before after : State) → after.
 destroyed-is r u before after tables cleared others = marked-is r u false (without_namespace r u before).table before after tables cleared others
 
 -- An offset that none of some namespaces has
-none-over : (o : ℕ) (xs : List Space) → ((t : Space) → Contains xs t → has_offset o t ≡ false) → count_by (has_offset o) xs ≡ 0
+pub none-over : (o : ℕ) (xs : List Space) → ((t : Space) → Contains xs t → has_offset o t ≡ false) → count_by (has_offset o) xs ≡ 0
 none-over o [] none = refl
 none-over o (x ∷ xs) none =
     let here : has_offset o x ≡ false = none x (Contains-here x xs) in

@@ -15,8 +15,11 @@ mod Examples
 mod Rows
 pub mod FreeLists
 pub mod AcceptedChanges
+pub mod AcceptedReleases
 pub mod SomeStep
 pub mod Initialised
 pub mod Made
 pub mod Destroyed
+pub mod Renamed
+pub mod Released
 pub mod Replies

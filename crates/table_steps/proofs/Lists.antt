@@ -17,6 +17,14 @@ find-none p (y ∷ ys) none x here = by (p y) refl none (Contains-cases y ys x h
     by false e none (inl is) rest = subst (λ z. p z ≡ false) (sym is) e
     by false e none (inr there) rest = rest none there
 
+-- Where nothing passes, nothing is found.
+pub find-never : {X : Type 0} (p : X → Bool) (xs : List X) → ((x : X) → Contains xs x → p x ≡ false) → find p xs ≡ None
+find-never p [] none = refl
+find-never p (y ∷ ys) none =
+    let here : p y ≡ false = none y (Contains-here y ys) in
+    let rest : find p ys ≡ None = find-never p ys (λ x there. none x (Contains-there y ys x there)) in
+    (λ i. cond (here i) (Some y) (find p ys)) ∙ rest
+
 -- Tests that are the same on a list find the same.
 pub find-same : {X : Type 0} (p q : X → Bool) (xs : List X) → ((x : X) → p x ≡ q x) → find p xs ≡ find q xs
 find-same p q xs same = λ i. find (λ x. same x i) xs
