@@ -26,7 +26,7 @@ use Rattle.table_steps.proofs.Lists.{AreNone, find-none, first-none, map-none, n
 use Rattle.table_steps.proofs.Sizes.{IsSized, sized}
 
 -- a region that can be used, and is not refused as not Ready, is Ready
-ready-unless : (L : Labels) (r : Region) → r.rule ≡ None → not_ready_by (status L r) ≡ None → status L r ≡ RegionReady
+pub ready-unless : (L : Labels) (r : Region) → r.rule ≡ None → not_ready_by (status L r) ≡ None → status L r ≡ RegionReady
 ready-unless L r usable none = by_rule r.rule usable none
   where
     by_clash : (o : Option (List ℕ × List ℕ)) → not_ready_by (status_by_clash o) ≡ None → status_by_clash o ≡ RegionReady

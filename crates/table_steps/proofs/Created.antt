@@ -1,8 +1,7 @@
 -- What an accepted create does.
-use Rattle.std.proofs.Common.{◌≡◌, ◌≢◌, inl, ℕ, ◌+◌, ◌-◌, ◌*◌, ◌%◌, ◌≤◌, ◌<◌, Bool, true, false, not, ◌&&◌, cond, List, Some, length, refl, sym, ap, ◌∙◌, arith}
+use Rattle.std.proofs.Common.{◌≡◌, ◌≢◌, inl, ℕ, ◌+◌, ◌-◌, ◌*◌, ◌%◌, ◌≤◌, ◌<◌, Bool, true, false, not, ◌&&◌, cond, List, Some, length, refl, ap, ◌∙◌, arith}
 use Rattle.std.specs.Prelude.{◌==◌, nat_lt}
 use Rattle.std.specs.List.{Contains}
-use Rattle.std.specs.Str.{bytes_eq}
 use Rattle.std.proofs.lemmas.Bool.{and_parts}
 use Rattle.view_types.specs.declared.extents.Extent.{Extent}
 use Rattle.view_types.specs.declared.reply.Reply.{Reply}
@@ -15,12 +14,13 @@ use Rattle.label_table.specs.Division.{IsOpen, alignment, is_common_free, is_hel
 use Rattle.label_table.specs.Fates.{spare}
 use Rattle.label_table.specs.Spaces.{Space}
 use Rattle.label_table.specs.Statuses.{RegionReady, status}
-use Rattle.label_table.specs.Tables.{ChangesAt, State, changed_at, is_member, pending_at, state, table}
-use Rattle.label_table.proofs.ListTests.{eq_other, eq_same, eq_true, find-some, list_any-at}
+use Rattle.label_table.specs.Tables.{ChangesAt, State, changed_at, is_member, pending_at, state, table, with_namespace, with_space}
+use Rattle.label_table.proofs.ListTests.{eq_same, eq_true, find-some, list_any-at}
 use Rattle.label_table.proofs.StatusLaws.{ready-with, status-elsewhere}
 use Rattle.table_steps.specs.declared.change.NewNamespace.{NewNamespace}
 use Rattle.table_steps.specs.Create.{Accepts, made, part_length}
 use Rattle.table_steps.proofs.Accepted.{IsUnrefused, unrefused}
+use Rattle.table_steps.proofs.Marks.{marks-cleared, marks-elsewhere}
 
 module _ (P : Platform) (L : Labels) (free : List Extent) (a : NewNamespace) (reply : Reply) (after : State) (c : Accepts P L free a reply after) where
   abbrev r : Region
@@ -58,14 +58,10 @@ module _ (P : Platform) (L : Labels) (free : List Extent) (a : NewNamespace) (re
   spare_other m n = let same : after.table.spare m ≡ spare P L m - 0 = spare_by m false n in omega (arith, same)
 
   pub marks : (v : List ℕ) → after.pending r.index v ≡ false
-  marks v =
-      let here : (r.index == r.index) ≡ true = eq_same r.index r.index refl in
-      ap (λ (s : State). s.pending r.index v) c.done.after_is ∙ (λ i. cond (here i) false (cond (r.index == r.index && bytes_eq a.uuid v) true (pending_at P L r.index v)))
+  marks v = ap (λ (s : State). s.pending r.index v) c.done.after_is ∙ marks-cleared r (with_namespace r new (state P L)) v
 
   pub marks_other : (i : ℕ) (v : List ℕ) → i ≢ r.index → after.pending i v ≡ pending_at P L i v
-  marks_other i v other =
-      let away : (r.index == i) ≡ false = eq_other r.index i (λ e. other (sym e)) in
-      ap (λ (s : State). s.pending i v) c.done.after_is ∙ (λ j. cond (away j) false (cond (away j && bytes_eq a.uuid v) true (pending_at P L i v)))
+  marks_other i v other = ap (λ (s : State). s.pending i v) c.done.after_is ∙ marks-elsewhere r a.uuid true (with_space r new (table P L)) (state P L) i v other
 
   pub multiple : c.done.offset % alignment ≡ 0
   multiple = c.done.first.multiple

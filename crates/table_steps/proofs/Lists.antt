@@ -1,10 +1,10 @@
 -- What is found in lists, and refusals of which none applies.
-use Rattle.std.proofs.Common.{◌≡◌, ◌⊎◌, inl, inr, Bool, true, false, not, cond, List, [], ◌∷◌, find, Option, Some, None, refl, sym, subst}
+use Rattle.std.proofs.Common.{◌≡◌, ◌⊎◌, inl, inr, Bool, true, false, not, cond, List, [], ◌∷◌, filter, find, Option, Some, None, refl, sym, ap, subst, ◌∙◌}
 use Rattle.std.specs.Prelude.{◌||◌, option_map}
 use Rattle.std.specs.List.{Contains}
 use Rattle.std.specs.Option.{option_or}
 use Rattle.view_types.specs.declared.refusal.Refusal.{Refusal}
-use Rattle.label_table.proofs.ListTests.{Contains-cases, Contains-none}
+use Rattle.label_table.proofs.ListTests.{Contains-cases, Contains-here, Contains-none, Contains-there, never}
 use Rattle.table_steps.specs.Refusals.{first_of, refused_if}
 
 -- Where nothing is found, nothing passes.
@@ -17,9 +17,46 @@ find-none p (y ∷ ys) none x here = by (p y) refl none (Contains-cases y ys x h
     by false e none (inl is) rest = subst (λ z. p z ≡ false) (sym is) e
     by false e none (inr there) rest = rest none there
 
+-- Where nothing passes, nothing is found.
+pub find-never : {X : Type 0} (p : X → Bool) (xs : List X) → ((x : X) → Contains xs x → p x ≡ false) → find p xs ≡ None
+find-never p [] none = refl
+find-never p (y ∷ ys) none =
+    let here : p y ≡ false = none y (Contains-here y ys) in
+    let rest : find p ys ≡ None = find-never p ys (λ x there. none x (Contains-there y ys x there)) in
+    (λ i. cond (here i) (Some y) (find p ys)) ∙ rest
+
 -- Tests that are the same on a list find the same.
 pub find-same : {X : Type 0} (p q : X → Bool) (xs : List X) → ((x : X) → p x ≡ q x) → find p xs ≡ find q xs
 find-same p q xs same = λ i. find (λ x. same x i) xs
+
+-- What a filter keeps passes, and what passes is kept.
+pub filter-from : {X : Type 0} (p : X → Bool) (xs : List X) (x : X) → Contains (filter p xs) x → Contains xs x × (p x ≡ true)
+filter-from p [] x here = Contains-none x here
+filter-from p (y ∷ ys) x here = by (p y) refl here (λ there. filter-from p ys x there)
+  where
+    by : (b : Bool) → p y ≡ b → Contains (cond b (y ∷ filter p ys) (filter p ys)) x → (Contains (filter p ys) x → Contains ys x × (p x ≡ true)) → Contains (y ∷ ys) x × (p x ≡ true)
+    by false e here rest = let found = rest here in (Contains-there y ys x found.0, found.1)
+    by true e here rest = elim (Contains-cases y (filter p ys) x here) [
+      | inl is ↦ (subst (λ z. Contains (y ∷ ys) z) (sym is) (Contains-here y ys), ap p is ∙ e)
+      | inr there ↦ (let found = rest there in (Contains-there y ys x found.0, found.1))
+    ]
+
+pub filter-to : {X : Type 0} (p : X → Bool) (xs : List X) (x : X) → Contains xs x → p x ≡ true → Contains (filter p xs) x
+filter-to p [] x here t = Contains-none x here
+filter-to p (y ∷ ys) x here t = by (p y) refl (Contains-cases y ys x here) (λ there. filter-to p ys x there t)
+  where
+    by : (b : Bool) → p y ≡ b → (x ≡ y) ⊎ Contains ys x → (Contains ys x → Contains (filter p ys) x) → Contains (cond b (y ∷ filter p ys) (filter p ys)) x
+    by true e (inl is) rest = subst (λ z. Contains (y ∷ filter p ys) z) (sym is) (Contains-here y (filter p ys))
+    by true e (inr there) rest = Contains-there y (filter p ys) x (rest there)
+    by false e (inl is) rest = never (p y) (ap p (sym is) ∙ t) e
+    by false e (inr there) rest = rest there
+
+-- Where a filter keeps one element, no other passes.
+pub filter-only : {X : Type 0} (p : X → Bool) (xs : List X) (only : X) → filter p xs ≡ only ∷ [] → (x : X) → Contains xs x → p x ≡ true → x ≡ only
+filter-only p xs only is x here t = elim (Contains-cases only [] x (subst (λ kept. Contains kept x) is (filter-to p xs x here t))) [
+  | inl same ↦ same
+  | inr none ↦ Contains-none x none
+]
 
 pub map-none : {X Y : Type 0} (f : X → Y) (o : Option X) → option_map f o ≡ None → o ≡ None
 map-none f None e = refl

@@ -1,30 +1,20 @@
 -- The state behind a create, by what it shows; and the fewest spare slots.
-use Rattle.std.proofs.Common.{◌≡◌, ◌≢◌, ◌⊎◌, inl, inr, ℕ, ◌≤◌, ◌<◌, Bool, true, false, ◌&&◌, cond, List, [], ◌∷◌, length, min, refl, sym, subst, ◌∙◌, arith}
-use Rattle.std.specs.Prelude.{◌==◌}
+use Rattle.std.proofs.Common.{◌≡◌, ◌≢◌, ◌⊎◌, inl, inr, ℕ, ◌≤◌, ◌<◌, true, false, List, [], ◌∷◌, length, min, refl, sym, subst, ◌∙◌, arith}
 use Rattle.std.specs.List.{Contains, fold}
-use Rattle.std.specs.Str.{bytes_eq}
 use Rattle.std.proofs.Math.Nat.{min-eq_left, min-eq_right, min-le_left, min-le_right}
 use Rattle.std.proofs.lemmas.Bool.{cases_lt}
 use Rattle.region_map.specs.declared.platform.Member.{Member}
 use Rattle.region_map.specs.declared.platform.Region.{Region}
 use Rattle.label_table.specs.Tables.{State, with_namespace}
-use Rattle.label_table.proofs.ListTests.{Contains-cases, Contains-here, Contains-none, Contains-there, both, eq_same, eq_true}
+use Rattle.label_table.proofs.ListTests.{Contains-cases, Contains-here, Contains-none, Contains-there}
 use Rattle.table_steps.specs.declared.change.NewNamespace.{NewNamespace}
 use Rattle.table_steps.specs.Changes.{least_among, least_spare}
 use Rattle.table_steps.specs.Create.{made, with_made}
+use Rattle.table_steps.proofs.Marks.{marked-is}
 
 pub made-is : (a : NewNamespace) (r : Region) (offset : ℕ) (before after : State) → after.table ≡ (with_namespace r (made a r offset) before).table
     → ((v : List ℕ) → after.pending r.index v ≡ false) → ((i : ℕ) (v : List ℕ) → i ≢ r.index → after.pending i v ≡ before.pending i v) → after ≡ with_made a r offset before
-made-is a r offset before after tables cleared others = λ i. record { table = tables i; pending = λ n v. marks n v i }
-  where
-    new_marks : ℕ → List ℕ → Bool
-    new_marks n v = cond (r.index == n && bytes_eq a.uuid v) true (before.pending n v)
-
-    marks : (n : ℕ) (v : List ℕ) → after.pending n v ≡ (with_made a r offset before).pending n v
-    marks n v = elim (both (r.index == n)) [
-      | inl here ↦ subst (λ k. after.pending k v ≡ false) (eq_true r.index n here) (cleared v) ∙ sym (λ i. cond (here i) false (cond (here i && bytes_eq a.uuid v) true (before.pending n v)))
-      | inr away ↦ others n v (λ e. absurd (let same : (r.index == n) ≡ true = eq_same r.index n (sym e) in cc)) ∙ sym (λ i. cond (away i) false (cond (away i && bytes_eq a.uuid v) true (before.pending n v)))
-    ]
+made-is a r offset before after tables cleared others = marked-is r a.uuid true (with_namespace r (made a r offset) before).table before after tables cleared others
 
 module _ (spare : ℕ → ℕ) where
   abbrev least_of : ℕ → List Member → ℕ

@@ -1,28 +1,35 @@
 -- A command has one step from a state.
-use Rattle.std.proofs.Common.{◌≡◌, ℕ, ◌≤◌, Bool, List, Option, Some, None, sym, subst, ◌∙◌, arith}
+use Rattle.std.proofs.Common.{◌≡◌, ℕ, ◌≤◌, Bool, List, [], ◌∷◌, Option, Some, None, sym, ap, subst, ◌∙◌, arith}
 use Rattle.std.specs.Option.{unwrap_or}
 use Rattle.view_types.specs.declared.extents.Extent.{Extent}
 use Rattle.view_types.specs.Intervals.{IsFirstFit}
 use Rattle.view_types.specs.declared.refusal.Refusal.{Refusal}
 use Rattle.view_types.specs.declared.reply.Reply.{Reply}
-use Rattle.view_types.specs.declared.reply.Reply.TheVariants.{Initialised, Refused}
-use Rattle.module_labels.specs.Labels.{Labels}
+use Rattle.view_types.specs.declared.reply.Reply.TheVariants.{Destroyed, Initialised, Refused, Released, Renamed}
+use Rattle.cmd_words.specs.declared.name_keys.NameKey.{NameKey}
+use Rattle.module_labels.specs.Labels.{Labels, has}
 use Rattle.region_map.specs.declared.platform.Platform.{Platform}
 use Rattle.region_map.specs.declared.platform.Region.{Region}
 use Rattle.region_map.specs.Platforms.{region_at}
 use Rattle.label_table.specs.Belonging.{IsDisjoint}
 use Rattle.label_table.specs.Division.{alignment, is_common_free, part_size}
+use Rattle.label_table.specs.Fates.{held_count}
 use Rattle.label_table.specs.Statuses.{AreaNotReady, Clash, RegionReady, RegionStatus, Unusable, status}
+use Rattle.label_table.specs.Spaces.{Space}
 use Rattle.label_table.specs.Tables.{State, state}
 use Rattle.label_table.proofs.ListTests.{some_is}
 use Rattle.label_table.proofs.Partition.{maximal-one}
 use Rattle.table_steps.specs.declared.change.Change.{Change}
-use Rattle.table_steps.specs.declared.change.Change.TheVariants.{Create, InitLabels}
+use Rattle.table_steps.specs.declared.change.Change.TheVariants.{Create, Destroy, InitLabels, ReleaseHeld, Rename}
 use Rattle.table_steps.specs.declared.change.NewNamespace.{NewNamespace}
 use Rattle.table_steps.specs.Changes.{IsDoneBy}
 use Rattle.table_steps.specs.Create.{AreFreeOf, AreFreeWhere, Creates, CreatesIn, IsCreated, create_refusals, created, part_length, with_made}
+use Rattle.table_steps.specs.Destroy.{IsDestroyed, destroy_refusals, with_destroyed}
 use Rattle.table_steps.specs.Initialise.{IsInitialised, initialise_refusals}
+use Rattle.table_steps.specs.Namespaces.{fitting}
 use Rattle.table_steps.specs.Refusals.{first_of}
+use Rattle.table_steps.specs.Release.{IsReleased, release_refusals}
+use Rattle.table_steps.specs.Rename.{IsRenamed, rename_refusals, with_renamed}
 use Rattle.table_steps.specs.Steps.{Does, IsStep}
 use Rattle.table_steps.proofs.SameSteps.{does-same}
 
@@ -41,6 +48,9 @@ first-one free len align one other a b =
     let le : one ≤ other = a.least other b.multiple b.free_from in
     let ge : other ≤ one = b.least one a.multiple a.free_from in
     omega (arith, le, ge)
+
+head_one : (s t : Space) → (s ∷ []) ≡ (t ∷ []) → s ≡ t
+head_one s t e = cc
 
 module _ (P : Platform) (L : Labels) where
   created-one : (a : NewNamespace) (reply : Reply) (after : State) (told : Reply) (now : State) → IsCreated P L a reply after → IsCreated P L a told now → AreSame reply after told now
@@ -70,6 +80,25 @@ module _ (P : Platform) (L : Labels) where
   initialised-one : (dimm slots : ℕ) (reply : Reply) (after : State) (told : Reply) (now : State) → IsInitialised P L dimm slots reply after → IsInitialised P L dimm slots told now → AreSame reply after told now
   initialised-one dimm slots reply after told now a b = (a.0 ∙ sym b.0, a.1 ∙ sym b.1)
 
+  module _ (index : ℕ) (key : NameKey) where
+    only_one : (q r : Region) (s t : Space) → q ≡ r → fitting L q key ≡ s ∷ [] → fitting L r key ≡ t ∷ [] → s ≡ t
+    only_one q r s t same a b = head_one s t (sym a ∙ ap (λ p. fitting L p key) same ∙ b)
+
+    destroyed-one : (reply : Reply) (after : State) (told : Reply) (now : State) → IsDestroyed P L index key reply after → IsDestroyed P L index key told now → AreSame reply after told now
+    destroyed-one reply after told now c d =
+        let regions : c.region ≡ d.region = some_is (sym c.found ∙ d.found) in
+        let spaces : c.space ≡ d.space = only_one c.region d.region c.space d.space regions c.only d.only in
+        (c.reply_is ∙ (λ i. Destroyed (spaces i).uuid) ∙ sym d.reply_is, c.after_is ∙ (λ i. with_destroyed (regions i) (spaces i).uuid (state P L)) ∙ sym d.after_is)
+
+    renamed-one : (name : List ℕ) (reply : Reply) (after : State) (told : Reply) (now : State) → IsRenamed P L index key name reply after → IsRenamed P L index key name told now → AreSame reply after told now
+    renamed-one name reply after told now c d =
+        let regions : c.region ≡ d.region = some_is (sym c.found ∙ d.found) in
+        let spaces : c.space ≡ d.space = only_one c.region d.region c.space d.space regions c.only d.only in
+        (c.reply_is ∙ (λ i. Renamed (spaces i).uuid name) ∙ sym d.reply_is, c.after_is ∙ (λ i. with_renamed (regions i) name (spaces i) (state P L)) ∙ sym d.after_is)
+
+  released-one : (dimm : ℕ) (u : List ℕ) (reply : Reply) (after : State) (told : Reply) (now : State) → IsReleased P L dimm u reply after → IsReleased P L dimm u told now → AreSame reply after told now
+  released-one dimm u reply after told now c d = (c.reply_is ∙ sym d.reply_is, c.after_is ∙ sym d.after_is)
+
   pub does-one : (slots : ℕ → ℕ) (change : Change) (own : List ℕ) (reply : Reply) (after : State) (told : Reply) (now : State)
       → Does P slots L change own reply after → Does P slots L change own told now → AreSame reply after told now
   does-one slots (InitLabels dimm) own reply after told now a b =
@@ -82,15 +111,27 @@ module _ (P : Platform) (L : Labels) where
     sector = sector;
     uuid = unwrap_or uuid own;
   }) reply after told now a b
+  does-one slots (Destroy region key) own reply after told now a b =
+      done-one (IsDestroyed P L region key) (state P L) (destroyed-one region key) (first_of (destroy_refusals P L region key)) reply after told now a b
+  does-one slots (Rename region key name) own reply after told now a b =
+      done-one (IsRenamed P L region key name) (state P L) (renamed-one region key name) (first_of (rename_refusals P L region key name)) reply after told now a b
+  does-one slots (ReleaseHeld dimm uuid) own reply after told now a b =
+      done-one (IsReleased P L dimm uuid) (state P L) (released-one dimm uuid) (first_of (release_refusals P L dimm uuid)) reply after told now a b
+
+  -- what is done gives no refusal as its reply
+  abbrev IsAnswered : (Reply → State → Type 0) → Type 0
+  IsAnswered accepted = (refusal : Refusal) (after : State) → accepted (Refused refusal) after → ⊥
+
+  done-refused : (accepted : Reply → State → Type 0) → IsAnswered accepted → (o : Option Refusal) (refusal : Refusal) (after : State) → IsDoneBy o (state P L) accepted (Refused refusal) after → after ≡ state P L
+  done-refused accepted answered (Some other) refusal after is = is.1
+  done-refused accepted answered None refusal after is = absurd (answered refusal after is)
 
   -- what is refused changes nothing
   pub refused-same : (slots : ℕ → ℕ) (change : Change) (own : List ℕ) (refusal : Refusal) (after : State) → Does P slots L change own (Refused refusal) after → after ≡ state P L
-  refused-same slots (InitLabels dimm) own refusal after does = by (first_of (initialise_refusals P L dimm)) does
-    where
-      by : (o : Option Refusal) → IsDoneBy o (state P L) (IsInitialised P L dimm (slots dimm)) (Refused refusal) after → after ≡ state P L
-      by (Some other) is = is.1
-      by None is = absurd (let e : Refused refusal ≡ Initialised dimm (slots dimm) = is.0 in cc)
-  refused-same slots (Create region size name abstraction sector uuid) own refusal after does = by (first_of (create_refusals P L does.free a)) does.is_done
+  refused-same slots (InitLabels dimm) own refusal after does =
+      done-refused (IsInitialised P L dimm (slots dimm)) (λ r now is. let e : Refused r ≡ Initialised dimm (slots dimm) = is.0 in absurd cc) (first_of (initialise_refusals P L dimm)) refusal after does
+  refused-same slots (Create region size name abstraction sector uuid) own refusal after does =
+      done-refused (IsCreated P L a) (λ r now is. let e : Refused r ≡ created a is.region is.offset now = is.reply_is in absurd cc) (first_of (create_refusals P L does.free a)) refusal after does.is_done
     where
       a : NewNamespace
       a = record {
@@ -101,10 +142,12 @@ module _ (P : Platform) (L : Labels) where
         sector = sector;
         uuid = unwrap_or uuid own;
       }
-
-      by : (o : Option Refusal) → IsDoneBy o (state P L) (IsCreated P L a) (Refused refusal) after → after ≡ state P L
-      by (Some other) is = is.1
-      by None is = absurd (let e : Refused refusal ≡ created a is.region is.offset after = is.reply_is in cc)
+  refused-same slots (Destroy region key) own refusal after does =
+      done-refused (IsDestroyed P L region key) (λ r now is. let e : Refused r ≡ Destroyed is.space.uuid = is.reply_is in absurd cc) (first_of (destroy_refusals P L region key)) refusal after does
+  refused-same slots (Rename region key name) own refusal after does =
+      done-refused (IsRenamed P L region key name) (λ r now is. let e : Refused r ≡ Renamed is.space.uuid name = is.reply_is in absurd cc) (first_of (rename_refusals P L region key name)) refusal after does
+  refused-same slots (ReleaseHeld dimm uuid) own refusal after does =
+      done-refused (IsReleased P L dimm uuid) (λ r now is. let e : Refused r ≡ Released (held_count P L dimm (has uuid)) = is.reply_is in absurd cc) (first_of (release_refusals P L dimm uuid)) refusal after does
 
 pub step-one : (P : Platform) → IsDisjoint P → (slots : ℕ → ℕ) (before : State) (change : Change) (own : List ℕ) (reply : Reply) (after : State) (told : Reply) (now : State)
     → IsStep P slots before change own reply after → IsStep P slots before change own told now → AreSame reply after told now

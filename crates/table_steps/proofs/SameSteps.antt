@@ -1,37 +1,34 @@
 -- The step of a command is told by the state alone: labels that stand for one state have the same refusals and the same
 -- step.
 use Rattle.std.proofs.Common.{◌≡◌, ℕ, Bool, List, [], ◌∷◌, Option, Some, None, find, refl, sym, ap, subst, ◌∙◌}
-use Rattle.std.specs.Prelude.{if◌then◌else◌, nat_lt, option_map, ◌==◌}
-use Rattle.std.specs.List.{Contains, list_any}
-use Rattle.std.specs.Option.{option_and_then, unwrap_or}
+use Rattle.std.specs.Prelude.{if◌then◌else◌, option_map, ◌==◌}
+use Rattle.std.specs.List.{Contains}
+use Rattle.std.specs.Option.{unwrap_or}
 use Rattle.view_types.specs.declared.extents.Extent.{Extent}
 use Rattle.view_types.specs.Intervals.{AreMaximal, IsFirstFit}
-use Rattle.view_types.specs.declared.refusal.Refusal.{Refusal}
-use Rattle.view_types.specs.declared.refusal.Refusal.TheVariants.{NameInUse, NoSlots, Unhealed, UuidInUse}
+use Rattle.view_types.specs.declared.refusal.Refusal.TheVariants.{NameInUse, UuidInUse}
 use Rattle.view_types.specs.declared.reply.Reply.{Reply}
 use Rattle.view_types.specs.declared.reply.Reply.TheVariants.{Initialised}
 use Rattle.module_labels.specs.Labels.{Labels}
-use Rattle.region_map.specs.declared.platform.Member.{Member}
 use Rattle.region_map.specs.declared.platform.Platform.{Platform}
 use Rattle.region_map.specs.declared.platform.Region.{Region}
 use Rattle.region_map.specs.Platforms.{region_at}
 use Rattle.label_table.specs.Belonging.{IsDisjoint}
-use Rattle.label_table.specs.Division.{alignment, is_common_free, part_size}
-use Rattle.label_table.specs.Namespaces.{namespaces}
-use Rattle.label_table.specs.Spaces.{Space, is_pending}
+use Rattle.label_table.specs.Division.{alignment, part_size}
+use Rattle.label_table.specs.Spaces.{Space}
 use Rattle.label_table.specs.Statuses.{AreaNotReady, Clash, RegionReady, RegionStatus, Unusable, status}
 use Rattle.label_table.specs.Tables.{State, state, table}
-use Rattle.label_table.proofs.Equations.{pending-of_state}
 use Rattle.label_table.proofs.ListTests.{find-some}
-use Rattle.label_table.proofs.StatusLaws.{common_free-kept, namespaces-kept, status-kept}
 use Rattle.table_steps.specs.declared.change.Change.{Change}
-use Rattle.table_steps.specs.declared.change.Change.TheVariants.{Create, InitLabels}
+use Rattle.table_steps.specs.declared.change.Change.TheVariants.{Create, Destroy, InitLabels, ReleaseHeld, Rename}
 use Rattle.table_steps.specs.declared.change.NewNamespace.{NewNamespace}
 use Rattle.table_steps.specs.Changes.{IsDoneBy}
 use Rattle.table_steps.specs.Create.{AreFreeOf, AreFreeWhere, Creates, IsCreated, bad_size_in, create_refusals, is_named, is_unnamed, keeps_uuid, name_in_use_in, no_space_in, part_length, uuid_in_use, with_made}
 use Rattle.table_steps.specs.Initialise.{Initialises, already_ready, cannot_initialise, initialised}
-use Rattle.table_steps.specs.Refusals.{any_pending, by_region, first_of, no_slots_in, not_ready_by, unhealed_in, unknown_dimm, unknown_region, unusable}
+use Rattle.table_steps.specs.Refusals.{by_region, first_of, unknown_dimm, unknown_region, unusable}
 use Rattle.table_steps.specs.Steps.{Does}
+use Rattle.table_steps.proofs.SameChanges.{destroys-same, done-same, releases-same, renames-same}
+use Rattle.table_steps.proofs.SameRegions.{by_region-same, free-same, lists, not_ready-same, slots-same, statuses, unhealed-same}
 use Rattle.table_steps.proofs.Uuids.{keeps-same}
 
 -- the initialisation of an area, by the state
@@ -43,47 +40,19 @@ InitialisesFrom P s dimm slots reply after =
 pub initialises-same : (P : Platform) (L M : Labels) → state P M ≡ state P L → (dimm slots : ℕ) (reply : Reply) (after : State) → Initialises P L dimm slots reply after → Initialises P M dimm slots reply after
 initialises-same P L M same dimm slots reply after does = subst (λ s. InitialisesFrom P s dimm slots reply after) (sym same) does
 
-by_region-same : (P : Platform) (index : ℕ) (f g : Region → Option Refusal) → ((q : Region) → Contains P.regions q → f q ≡ g q) → by_region P index f ≡ by_region P index g
-by_region-same P index f g same = by (region_at P index) refl
-  where
-    by : (o : Option Region) → region_at P index ≡ o → option_and_then f o ≡ option_and_then g o
-    by None e = refl
-    by (Some q) e = same q (find-some (λ (r : Region). r.index == index) P.regions q e).0
-
 module _ (P : Platform) (disjoint : IsDisjoint P) (L M : Labels) (same : state P M ≡ state P L) where
   tables : table P M ≡ table P L
   tables = ap (λ (s : State). s.table) same
 
   module _ (q : Region) (in_P : Contains P.regions q) where
-    statuses : status M q ≡ status L q
-    statuses = status-kept P disjoint L M tables q in_P
-
-    lists : namespaces M q ≡ namespaces L q
-    lists = namespaces-kept P disjoint L M tables q in_P
-
-    free-same : is_common_free P M q ≡ is_common_free P L q
-    free-same = common_free-kept P disjoint L M tables q in_P
-
-    pending-same : any_pending M q ≡ any_pending L q
-    pending-same =
-        let marks : (v : List ℕ) → is_pending M q v ≡ is_pending L q v = λ v. pending-of_state P disjoint L M same q v in_P in
-        λ i. list_any (λ (s : Space). marks s.uuid i) (lists i)
-
-    unhealed-same : unhealed_in P M q ≡ unhealed_in P L q
-    unhealed-same =
-        λ i. if pending-same i then option_map (λ (x : Member). Unhealed x.handle) (find (λ (x : Member). nat_lt ((same i).table.spare x.handle) 1) q.members) else None
-
     names-same : (name : List ℕ) → name_in_use_in M name q ≡ name_in_use_in L name q
-    names-same name = λ i. if is_unnamed name then None else option_map (λ (s : Space). NameInUse s.uuid) (find (is_named name) (lists i))
-
-    slots-same : no_slots_in P M 2 q ≡ no_slots_in P L 2 q
-    slots-same = λ i. option_map (λ (x : Member). NoSlots x.handle ((same i).table.spare x.handle)) (find (λ (x : Member). nat_lt ((same i).table.spare x.handle) 2) q.members)
+    names-same name = λ i. if is_unnamed name then None else option_map (λ (s : Space). NameInUse s.uuid) (find (is_named name) (lists P disjoint L M same q in_P i))
 
     free_where : (free : List Extent) → AreFreeWhere (status L q) P L q free → AreFreeWhere (status M q) P M q free
-    free_where free are = subst (λ (s : RegionStatus). AreFreeWhere s P M q free) (sym statuses) (by (status L q) are)
+    free_where free are = subst (λ (s : RegionStatus). AreFreeWhere s P M q free) (sym (statuses P disjoint L M same q in_P)) (by (status L q) are)
       where
         by : (s : RegionStatus) → AreFreeWhere s P L q free → AreFreeWhere s P M q free
-        by RegionReady are = subst (λ (f : ℕ → Bool). AreMaximal (part_size q) f free) (sym free-same) are
+        by RegionReady are = subst (λ (f : ℕ → Bool). AreMaximal (part_size q) f free) (sym (free-same P disjoint L M same q in_P)) are
         by (Unusable rule) are = are
         by (AreaNotReady m k) are = are
         by (Clash one other) are = are
@@ -93,11 +62,11 @@ module _ (P : Platform) (disjoint : IsDisjoint P) (L M : Labels) (same : state P
 
   pub refusals-same : (free : List Extent) (a : NewNamespace) → create_refusals P M free a ≡ create_refusals P L free a
   refusals-same free a =
-      let statuses_are = by_region-same P a.region (λ q. not_ready_by (status M q)) (λ q. not_ready_by (status L q)) (λ q in_P. ap not_ready_by (statuses q in_P)) in
-      let unhealed_are = by_region-same P a.region (unhealed_in P M) (unhealed_in P L) unhealed-same in
+      let statuses_are = not_ready-same P disjoint L M same a.region in
+      let unhealed_are = unhealed-same P disjoint L M same a.region in
       let names_are = by_region-same P a.region (name_in_use_in M a.name) (name_in_use_in L a.name) (λ q in_P. names-same q in_P a.name) in
       let uuids_are = uuids-same a.uuid in
-      let slots_are = by_region-same P a.region (no_slots_in P M 2) (no_slots_in P L 2) slots-same in
+      let slots_are = slots-same P disjoint L M same a.region 2 in
       λ i. unknown_region P a.region ∷ unusable P a.region ∷ statuses_are i ∷ unhealed_are i ∷ by_region P a.region (bad_size_in a.size) ∷ names_are i ∷ uuids_are i
       ∷ by_region P a.region (no_space_in free a.size) ∷ slots_are i ∷ []
 
@@ -107,7 +76,7 @@ module _ (P : Platform) (disjoint : IsDisjoint P) (L M : Labels) (same : state P
     found = c.found;
     offset = c.offset;
     first = subst (λ (f : ℕ → Bool). IsFirstFit f (part_length a c.region) alignment c.offset)
-        (sym (free-same c.region (find-some (λ (r : Region). r.index == a.region) P.regions c.region c.found).0)) c.first;
+        (sym (free-same P disjoint L M same c.region (find-some (λ (r : Region). r.index == a.region) P.regions c.region c.found).0)) c.first;
     after_is = c.after_is ∙ ap (with_made a c.region c.offset) (sym same);
     reply_is = c.reply_is;
   }
@@ -123,13 +92,9 @@ module _ (P : Platform) (disjoint : IsDisjoint P) (L M : Labels) (same : state P
   creates-same a reply after c = record {
     free = c.free;
     free_are = free_of a.region c.free c.free_are;
-    is_done = subst (λ (o : Option Refusal). IsDoneBy o (state P M) (IsCreated P M a) reply after) (sym (ap first_of (refusals-same c.free a)))
-        (by (first_of (create_refusals P L c.free a)) c.is_done);
+    is_done = done-same (IsCreated P L a) (IsCreated P M a) (state P L) (state P M) same
+        (first_of (create_refusals P L c.free a)) (first_of (create_refusals P M c.free a)) (ap first_of (refusals-same c.free a)) (created-same a) reply after c.is_done;
   }
-    where
-      by : (o : Option Refusal) → IsDoneBy o (state P L) (IsCreated P L a) reply after → IsDoneBy o (state P M) (IsCreated P M a) reply after
-      by (Some refusal) is = (is.0, is.1 ∙ sym same)
-      by None is = created-same a reply after is
 
   pub does-same : (slots : ℕ → ℕ) (change : Change) (own : List ℕ) (reply : Reply) (after : State) → Does P slots L change own reply after → Does P slots M change own reply after
   does-same slots (InitLabels dimm) own reply after does = initialises-same P L M same dimm (slots dimm) reply after does
@@ -141,3 +106,6 @@ module _ (P : Platform) (disjoint : IsDisjoint P) (L M : Labels) (same : state P
     sector = sector;
     uuid = unwrap_or uuid own;
   }) reply after does
+  does-same slots (Destroy region key) own reply after does = destroys-same P disjoint L M same region key reply after does
+  does-same slots (Rename region key name) own reply after does = renames-same P disjoint L M same region key name reply after does
+  does-same slots (ReleaseHeld dimm uuid) own reply after does = releases-same P disjoint L M same dimm uuid reply after does

@@ -6,23 +6,28 @@ use Rattle.view_types.specs.declared.extents.Extent.{Extent}
 use Rattle.view_types.specs.declared.refusal.Refusal.{Refusal}
 use Rattle.view_types.specs.declared.refusal.Refusal.TheVariants.{UnknownRegion}
 use Rattle.view_types.specs.declared.reply.Reply.{Reply}
-use Rattle.view_types.specs.declared.reply.Reply.TheVariants.{Initialised, Refused}
-use Rattle.module_labels.specs.Labels.{Labels}
+use Rattle.view_types.specs.declared.reply.Reply.TheVariants.{Destroyed, Initialised, Refused, Released, Renamed}
+use Rattle.module_labels.specs.Labels.{Labels, has}
 use Rattle.region_map.specs.declared.platform.Platform.{Platform}
 use Rattle.region_map.specs.declared.platform.Region.{Region}
 use Rattle.region_map.specs.Platforms.{region_at}
 use Rattle.label_table.specs.Division.{is_common_free, is_held_at, namespaces_over, part_size}
+use Rattle.label_table.specs.Fates.{held_count}
 use Rattle.label_table.specs.Statuses.{AreaNotReady, Clash, RegionReady, RegionStatus, Unusable, status}
 use Rattle.label_table.specs.Tables.{State, state}
 use Rattle.label_table.proofs.ListTests.{lt_not}
 use Rattle.table_steps.specs.declared.change.Change.{Change}
-use Rattle.table_steps.specs.declared.change.Change.TheVariants.{Create, InitLabels}
+use Rattle.table_steps.specs.declared.change.Change.TheVariants.{Create, Destroy, InitLabels, ReleaseHeld, Rename}
 use Rattle.table_steps.specs.declared.change.NewNamespace.{NewNamespace}
 use Rattle.table_steps.specs.Changes.{IsDoneBy}
 use Rattle.table_steps.specs.Create.{AreFreeOf, AreFreeWhere, Creates, IsCreated, create_refusals, created, with_made}
+use Rattle.table_steps.specs.Destroy.{IsDestroyed, destroy_refusals, with_destroyed}
 use Rattle.table_steps.specs.Initialise.{IsInitialised, initialise_refusals, initialised}
 use Rattle.table_steps.specs.Refusals.{first_of, refused_if}
+use Rattle.table_steps.specs.Release.{IsReleased, release_refusals, released}
+use Rattle.table_steps.specs.Rename.{IsRenamed, rename_refusals, with_renamed}
 use Rattle.table_steps.specs.Steps.{Does}
+use Rattle.table_steps.proofs.AcceptedChanges.{IsUnrefusedChange, known, unrefused-destroy, unrefused-rename}
 use Rattle.table_steps.proofs.FreeLists.{maximal}
 use Rattle.table_steps.proofs.Lists.{first-none}
 use Rattle.table_steps.proofs.Places.{place}
@@ -74,3 +79,20 @@ module _ (P : Platform) (L : Labels) where
     sector = sector;
     uuid = unwrap_or uuid own;
   })
+  does-some slots (Destroy region key) own = done-some (IsDestroyed P L region key) (state P L) (first_of (destroy_refusals P L region key)) destroys
+    where
+      destroys : first_of (destroy_refusals P L region key) ≡ None → Some_step (IsDestroyed P L region key)
+      destroys none =
+          let found = known P region (first-none (destroy_refusals P L region key) none).0 in
+          let change : IsUnrefusedChange P L key found.0 = unrefused-destroy P L region key found.0 found.1 none in
+          (Destroyed change.own.uuid, with_destroyed found.0 change.own.uuid (state P L), record { region = found.0; found = found.1; space = change.own; only = change.one.only; after_is = refl; reply_is = refl })
+  does-some slots (Rename region key name) own = done-some (IsRenamed P L region key name) (state P L) (first_of (rename_refusals P L region key name)) renames
+    where
+      renames : first_of (rename_refusals P L region key name) ≡ None → Some_step (IsRenamed P L region key name)
+      renames none =
+          let found = known P region (first-none (rename_refusals P L region key name) none).0 in
+          let change : IsUnrefusedChange P L key found.0 = (unrefused-rename P L region key name found.0 found.1 none).change in
+          (Renamed change.own.uuid name, with_renamed found.0 name change.own (state P L), record { region = found.0; found = found.1; space = change.own; only = change.one.only; after_is = refl; reply_is = refl })
+  does-some slots (ReleaseHeld dimm uuid) own =
+      done-some (IsReleased P L dimm uuid) (state P L) (first_of (release_refusals P L dimm uuid))
+      (λ none. (Released (held_count P L dimm (has uuid)), released P dimm uuid (state P L), record { after_is = refl; reply_is = refl }))

@@ -1,5 +1,6 @@
 -- `release-held`: the labels with one uuid that a module holds are given up.
-use Rattle.std.specs.Prelude.{◌≡◌, ℕ, ◌==◌, ◌&&◌, ◌||◌, nat_lt, Bool, not, List, [], ◌∷◌, Option, find}
+use Rattle.std.specs.Prelude.{◌≡◌, ℕ, ◌==◌, ◌&&◌, ◌||◌, ◌<◌, nat_lt, Bool, not, true, List, [], ◌∷◌, Option, find}
+use Rattle.std.specs.List.{Contains, list_any}
 use Rattle.std.specs.Option.{option_and_then}
 use Rattle.view_types.specs.declared.refusal.Refusal.{Refusal}
 use Rattle.view_types.specs.declared.refusal.Refusal.TheVariants.{NotHeld, ReadOnly}
@@ -7,6 +8,7 @@ use Rattle.view_types.specs.declared.reply.Reply.{Reply}
 use Rattle.view_types.specs.declared.reply.Reply.TheVariants.{Released}
 use Rattle.label_codec.specs.declared.label.Label.{Label}
 use Rattle.label_codec.specs.Flags.{is_local, is_read_only}
+use Rattle.module_labels.specs.declared.kind.AreaKind.TheVariants.{Ready}
 use Rattle.module_labels.specs.Labels.{Labels, has}
 use Rattle.region_map.specs.declared.platform.Platform.{Platform}
 use Rattle.region_map.specs.declared.platform.Region.{Region}
@@ -54,6 +56,16 @@ release_refusals platform labels dimm uuid =
     ∷ region_lacks_area platform labels dimm uuid
     ∷ held_fixed platform labels dimm uuid
     ∷ []
+
+-- A module of the platform has a Ready area and holds labels with the uuid. None of these is read-only or not of an
+-- interleave set, and each region that one of them belongs to has the areas of all its modules.
+pub record MayBeReleased (platform : Platform) (labels : Labels) (dimm : ℕ) (uuid : List ℕ) : Type 0 where
+  pub known : list_any (λ handle. handle == dimm) platform.modules ≡ true
+  pub ready : (labels dimm).kind ≡ Ready
+  pub some : 0 < held_count platform labels dimm (has uuid)
+  pub loose : held_count platform labels dimm (is_fixed uuid) ≡ 0
+  pub areas : (region : Region) → Contains platform.regions region → holds_of platform labels dimm uuid region ≡ true
+      → all_ready region labels ≡ true
 
 -- The module holds none of the labels any longer, and has a spare slot more for each. Held labels of other modules that
 -- are left of the same namespace may vanish with them.

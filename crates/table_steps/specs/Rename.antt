@@ -1,7 +1,9 @@
 -- `rename-namespace`: the namespace of a region that fits a key gets a name.
-use Rattle.std.specs.Prelude.{◌≡◌, ℕ, ◌&&◌, Bool, false, not, List, [], ◌∷◌, Option, Some, None, find, if◌then◌else◌, option_map}
+use Rattle.std.specs.Prelude.{◌≡◌, ℕ, ◌&&◌, Bool, false, not, List, [], ◌∷◌, Option, Some, None, find}
+use Rattle.std.specs.Prelude.{if◌then◌else◌, option_map}
 use Rattle.std.specs.Str.{bytes_eq}
 use Rattle.view_types.specs.declared.refusal.Refusal.{Refusal}
+use Rattle.view_types.specs.declared.refusal.Refusal.TheVariants as refusals
 use Rattle.view_types.specs.declared.refusal.Refusal.TheVariants.{NameInUse}
 use Rattle.view_types.specs.declared.reply.Reply.{Reply}
 use Rattle.view_types.specs.declared.reply.Reply.TheVariants.{Renamed}
@@ -12,11 +14,13 @@ use Rattle.region_map.specs.declared.platform.Region.{Region}
 use Rattle.region_map.specs.Platforms.{region_at}
 use Rattle.label_table.specs.Namespaces.{namespaces}
 use Rattle.label_table.specs.Spaces.{Space}
+use Rattle.label_table.specs.Statuses.{status}
 use Rattle.label_table.specs.Tables.{State, state, with_changed_namespace}
 use Rattle.table_steps.specs.Changes.{IsDoneBy, without_marks}
 use Rattle.table_steps.specs.Create.{is_named, is_unnamed}
 use Rattle.table_steps.specs.Namespaces.{ambiguous_in, fitting, read_only_in, unknown_in}
-use Rattle.table_steps.specs.Refusals.{by_region, first_of, no_slots, region_not_ready, unhealed, unknown_region, unusable}
+use Rattle.table_steps.specs.Refusals.{by_region, first_of, no_slots, no_slots_in, not_ready_by, region_not_ready}
+use Rattle.table_steps.specs.Refusals.{unhealed, unhealed_in, unknown_region, unusable}
 
 -- another namespace than the one with this uuid has the name
 abbrev pub is_other_named : List ℕ → List ℕ → Space → Bool
@@ -44,6 +48,20 @@ rename_refusals platform labels index key name =
     ∷ by_region platform index (read_only_in labels key)
     ∷ by_region platform index (name_taken_in labels key name)
     ∷ no_slots platform labels 1 index
+    ∷ []
+
+-- the same for a region that there is
+abbrev pub rename_refusals_in : Platform → Labels → NameKey → List ℕ → Region → List (Option Refusal)
+rename_refusals_in platform labels key name region =
+    None
+    ∷ option_map refusals.Unusable region.rule
+    ∷ not_ready_by (status labels region)
+    ∷ unhealed_in platform labels region
+    ∷ unknown_in labels key region
+    ∷ ambiguous_in labels key region
+    ∷ read_only_in labels key region
+    ∷ name_taken_in labels key name region
+    ∷ no_slots_in platform labels 1 region
     ∷ []
 
 -- a namespace with another name

@@ -7,7 +7,10 @@ mod laws;
 mod plain;
 
 pub use change::{Change, NewNamespace};
-pub use laws::{create_laws, initialise_laws, made_laws, range_laws, some_step_laws, step_laws};
+pub use laws::{
+    changed_laws, create_laws, destroy_laws, freed_laws, initialise_laws, made_laws, name_laws,
+    range_laws, release_laws, rename_laws, some_step_laws, step_laws, unrefused_laws,
+};
 pub use plain::{bad_size, initialise, no_slots, spare, uuid_in_use};
 
 #[cfg(test)]

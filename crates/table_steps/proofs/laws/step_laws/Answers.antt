@@ -1,5 +1,6 @@
-use Rattle.table_steps.proofs.KnownRegions.{known-region}
+use Rattle.table_steps.proofs.KnownRegions.{known-destroy, known-region, known-rename}
 use Rattle.table_steps.proofs.OneStep.{step-one, step-refused}
+use Rattle.table_steps.proofs.SameChanges.{destroy_refusals-same, release_refusals-same, rename_refusals-same}
 use Rattle.table_steps.proofs.SameSteps.{does-same, refusals-same}
 use Rattle.table_steps.proofs.laws.step_laws.Goals as goal
 
@@ -17,3 +18,18 @@ returns-clause-one_step c = λ P slots before after now change own reply told di
 
 pub returns-clause-known_region : goal.returns-clause-known_region
 returns-clause-known_region c = λ P L free a r found. known-region P L free a r found
+
+pub returns-clause-known_destroy : goal.returns-clause-known_destroy
+returns-clause-known_destroy c = λ P L index key r found. known-destroy P L index key r found
+
+pub returns-clause-known_rename : goal.returns-clause-known_rename
+returns-clause-known_rename c = λ P L index key name r found. known-rename P L index key r found name
+
+pub returns-clause-same_destroy : goal.returns-clause-same_destroy
+returns-clause-same_destroy c = λ P L M index key disjoint same. destroy_refusals-same P disjoint L M same index key
+
+pub returns-clause-same_rename : goal.returns-clause-same_rename
+returns-clause-same_rename c = λ P L M index key name disjoint same. rename_refusals-same P disjoint L M same index key name
+
+pub returns-clause-same_release : goal.returns-clause-same_release
+returns-clause-same_release c = λ P L M dimm u disjoint same. release_refusals-same P disjoint L M same dimm u
