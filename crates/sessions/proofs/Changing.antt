@@ -37,6 +37,7 @@ use Rattle.namespace_core.specs.declared.creation.ChangeFault.{ChangeFault}
 use Rattle.namespace_core.specs.declared.creation.ChangeFault.TheVariants.{Area, Memory}
 use Rattle.namespace_core.specs.Lists.{IsStateOf}
 use Rattle.namespace_core.specs.Changes.{IsBeforeOrBehind}
+use Rattle.namespace_core.specs.Commands.{IsChange}
 use Rattle.namespace_core.specs.Create.{HasChangeCause, WhereMemory, WhereRefused, modules_of}
 use Rattle.namespace_core.proofs.JoinedSteps.{left-fits}
 use Rattle.namespace_core.proofs.RecoveredSpaces.{state-there}
@@ -91,42 +92,26 @@ region-known P sound index dimm = by (region_at P index) refl
         let in_P : Contains P.regions r = (find-some (λ (q : Region). q.index == index) P.regions r e).0 in
         list_any-at (λ handle. handle == dimm) P.modules dimm (member-known r.members P.modules dimm (known-members P sound r in_P) is) (eq_same dimm dimm refl)
 
+-- a command on a region fails at a module of the platform
+pub region-among : {R : Type 0} (m : Ghosts R) (old new : R) (P : Platform) → IsSound P → (index : ℕ) (result : Result Reply ChangeFault) → HasChangeCause (modules_of P index) m old new result
+    → IfErr (run_by result) (IsRunAmong P.modules)
+region-among m old new P sound index (Ok reply) cause = tt
+region-among m old new P sound index (Err (Area dimm)) cause = region-known P sound index dimm cause.1
+region-among m old new P sound index (Err Memory) cause = tt
+
 module _ {R : Type 0} (m : Ghosts R) (old new : R) (modules : List ℕ) where
   change-cause : (result : Result Reply ChangeFault) → HasChangeCause modules m old new result → HasRunCause m old new (run_by result)
   change-cause (Ok reply) cause = cause
   change-cause (Err (Area dimm)) cause = cause.0
   change-cause (Err Memory) cause = cause
 
-  change-among : (P : Platform) → ((dimm : ℕ) → is_among modules dimm ≡ true → list_any (λ handle. handle == dimm) P.modules ≡ true)
-      → (result : Result Reply ChangeFault) → HasChangeCause modules m old new result → IfErr (run_by result) (IsRunAmong P.modules)
-  change-among P known (Ok reply) cause = tt
-  change-among P known (Err (Area dimm)) cause = known dimm cause.1
-  change-among P known (Err Memory) cause = tt
-
   change-at : (result : Result Reply ChangeFault) → HasChangeCause modules m old new result → IfErr (run_by result) (IsRunAt modules)
   change-at (Ok reply) cause = tt
   change-at (Err (Area dimm)) cause = cause.1
   change-at (Err Memory) cause = tt
 
--- What a command of `namespace_core` promises that changes areas of these modules.
-pub record HasChange {R : Type 0} (m : Ghosts R) (P : Platform) (modules : List ℕ) (does : Reply → State → Type 0) (sets : StoredSets) (old : R) (now : StoredSets) (new : R)
-    (result : Result Reply ChangeFault) : Type 0 where
-  pub step : IfOk result (λ reply. does reply (state_in now))
-  pub refused : IfOk result (WhereRefused (now ≡ sets))
-  pub unwritten : IfOk result (WhereRefused (new ≡ old))
-  pub memory : IfErr result (WhereMemory (now ≡ sets))
-  pub unwritten_memory : IfErr result (WhereMemory (new ≡ old))
-  pub regions : now.regions ≡ sets.regions
-  pub dimms : map dimm_of now.modules ≡ map dimm_of sets.modules
-  pub sizes : map size_in now.modules ≡ map size_in sets.modules
-  pub stands : Stand m old sets → OnOk result (All (StandsIn (m.areas new)) now.modules)
-  pub any_moment : Stand m old sets → LeavesOnly m old new (LeftIn (map dimm_of sets.modules) (m.said old) (IsBeforeOrBehind P (labels_in sets) does))
-  pub writes_among : WritesAmong modules m old new
-  pub cause : HasChangeCause modules m old new result
-  pub reads : m.reads new ≡ m.reads old
-
 -- A command that changes areas of these modules by this step.
-pub record IsChange (P : Platform) (slots : ℕ → ℕ) (L : Labels) (command : Command) (own : List ℕ) (modules : List ℕ) (does : Reply → State → Type 0) : Type 1 where
+pub record IsCommandOf (P : Platform) (slots : ℕ → ℕ) (L : Labels) (command : Command) (own : List ℕ) (modules : List ℕ) (does : Reply → State → Type 0) : Type 1 where
   pub does_so : (reply : Reply) (after : State) → does reply after → Does P slots L command own reply after
   pub says : (known fact : Type 0) → fact → SaysIfKnown P command known fact
   pub quiet : (answer : Result Reply RunFault) → may_change command answer ≡ result_changes answer
@@ -134,30 +119,30 @@ pub record IsChange (P : Platform) (slots : ℕ → ℕ) (L : Labels) (command :
   pub areas : (areas now : Areas) (answer : Result Reply RunFault) → HasAreas command areas now answer
   pub left : (areas : Areas) (said : List ℕ) (c : CrashRecord) → LeavesArea command areas said c
   pub refuses : RefusesUnchanged does
-  pub known : (dimm : ℕ) → is_among modules dimm ≡ true → list_any (λ handle. handle == dimm) P.modules ≡ true
 
 module _ {R : Type 0} (m : Ghosts R) (P : Platform) (sets : StoredSets) (in_P : IsStateOf P sets) (command : Command) (own modules : List ℕ) (does : Reply → State → Type 0)
-    (is : IsChange P (slots_at sets) (labels_in sets) command own modules does) (old : R) (now : StoredSets) (new : R) where
+    (is : IsCommandOf P (slots_at sets) (labels_in sets) command own modules does) (old : R) (now : StoredSets) (new : R) where
   fits-on : (L : Labels) → IsBeforeOrBehind P (labels_in sets) does L → IsBeforeOrAfter P (slots_at sets) (labels_in sets) command own L
   fits-on L (inl same) = inl same
   fits-on L (inr behind) = inr (record { reply = behind.reply; after = behind.after; does = is.does_so behind.reply behind.after behind.done; table_is = behind.table_is })
 
-  change-step : (result : Result Reply ChangeFault) → HasChange m P modules does sets old now new result
+  change-step : (result : Result Reply ChangeFault) → IsChange modules P does m sets old now new result
       → IfOk (run_by result) (λ reply. SaysIfKnown P command (Stand m old sets) (Does P (slots_at sets) (labels_in sets) command own reply (state P (labels_in now))))
   change-step (Ok reply) has =
       is.says (Stand m old sets) _ (is.does_so reply (state P (labels_in now)) (subst (does reply) (state-there P now (has.regions ∙ in_P.regions) (labels_in now)) has.step))
   change-step (Err fault) has = tt
 
-  change-left : (result : Result Reply ChangeFault) → HasChange m P modules does sets old now new result → Stand m old sets
+  change-left : (result : Result Reply ChangeFault) → IsChange modules P does m sets old now new result → Stand m old sets
       → LeavesOnly m old new (LeftIn P.modules (m.said old) (IsBeforeOrAfter P (slots_at sets) (labels_in sets) command own))
   change-left result has stand =
       subst (λ (hs : List ℕ). LeavesOnly m old new (LeftIn hs (m.said old) (IsBeforeOrAfter P (slots_at sets) (labels_in sets) command own))) in_P.modules
-      (left-fits (map dimm_of sets.modules) (m.said old) (IsBeforeOrBehind P (labels_in sets) does) (IsBeforeOrAfter P (slots_at sets) (labels_in sets) command own) fits-on (has.any_moment stand))
+      (left-fits (map dimm_of sets.modules) (m.said old) (IsBeforeOrBehind P (labels_in sets) does) (IsBeforeOrAfter P (slots_at sets) (labels_in sets) command own) fits-on (has.any_moment stand.0 stand.1))
 
-  pub change-is-done : (result : Result Reply ChangeFault) → HasChange m P modules does sets old now new result → IsDone m P command own sets old now new (run_by result)
-  change-is-done result has = record {
+  pub change-is-done : (result : Result Reply ChangeFault) → IsChange modules P does m sets old now new result → IfErr (run_by result) (IsRunAmong P.modules)
+      → IsDone m P command own sets old now new (run_by result)
+  change-is-done result has among = record {
     step = change-step result has;
-    stands = λ stand. on-run _ result (has.stands stand);
+    stands = λ stand. on-run _ result (has.stands stand.0 stand.1);
     any_moment = change-left result has;
     kept = λ quiet. change-kept does is.refuses (state_in now) (now ≡ sets) result has.step has.refused has.memory (sym (is.quiet (run_by result)) ∙ quiet);
     reads_only = λ quiet. subst (Reads m old) (sym (change-kept does is.refuses (state_in now) (new ≡ old) result has.step has.unwritten has.unwritten_memory (sym (is.quiet (run_by result)) ∙ quiet))) (no_call m old);
@@ -166,7 +151,7 @@ module _ {R : Type 0} (m : Ghosts R) (P : Platform) (sets : StoredSets) (in_P : 
     area_left = λ stand. weakened (LeftIn P.modules (m.said old) (IsBeforeOrAfter P (slots_at sets) (labels_in sets) command own)) (LeavesArea command (m.areas old) (m.said old))
         (λ c left. is.left (m.areas old) (m.said old) c) (change-left result has stand);
     cause = change-cause m old new modules result has.cause;
-    among = change-among m old new modules P is.known result has.cause;
+    among = among;
     at = subst (λ (hs : List ℕ). IfErr (run_by result) (IsRunAt hs)) (sym is.written) (change-at m old new modules result has.cause);
     reads = λ other. has.reads;
     regions = has.regions;
@@ -175,12 +160,12 @@ module _ {R : Type 0} (m : Ghosts R) (P : Platform) (sets : StoredSets) (in_P : 
   }
 
 -- The commands.
-module _ (P : Platform) (sound : IsSound P) (slots : ℕ → ℕ) (L : Labels) (own : List ℕ) where
+module _ (P : Platform) (slots : ℕ → ℕ) (L : Labels) (own : List ℕ) where
   create-refuses : (a : NewNamespace) → RefusesUnchanged (Creates P L a)
   create-refuses a reply after does =
       refused-by (state P L) (IsCreated P L a) (λ reply after done. ap is_change done.reply_is) reply after (first_of (create_refusals P L does.free a)) does.is_done
 
-  pub create-change : (region size : ℕ) (name abstraction : List ℕ) (sector : ℕ) (uuid : Option (List ℕ)) → IsChange P slots L (commands.Create region size name abstraction sector uuid) own (modules_of P region) (Creates P L (record {
+  pub create-change : (region size : ℕ) (name abstraction : List ℕ) (sector : ℕ) (uuid : Option (List ℕ)) → IsCommandOf P slots L (commands.Create region size name abstraction sector uuid) own (modules_of P region) (Creates P L (record {
     region = region;
     size = size;
     name = name;
@@ -196,10 +181,9 @@ module _ (P : Platform) (sound : IsSound P) (slots : ℕ → ℕ) (L : Labels) (
     areas = λ areas now answer. tt;
     left = λ areas said c. tt;
     refuses = create-refuses _;
-    known = region-known P sound region;
   }
 
-  pub destroy-change : (region : ℕ) (key : NameKey) → IsChange P slots L (commands.Destroy region key) own (modules_of P region) (Destroys P L region key)
+  pub destroy-change : (region : ℕ) (key : NameKey) → IsCommandOf P slots L (commands.Destroy region key) own (modules_of P region) (Destroys P L region key)
   destroy-change region key = record {
     does_so = λ reply after does. does;
     says = λ known fact is. is;
@@ -208,10 +192,9 @@ module _ (P : Platform) (sound : IsSound P) (slots : ℕ → ℕ) (L : Labels) (
     areas = λ areas now answer. tt;
     left = λ areas said c. tt;
     refuses = λ reply after does. refused-by (state P L) (IsDestroyed P L region key) (λ reply after done. ap is_change done.reply_is) reply after (first_of (destroy_refusals P L region key)) does;
-    known = region-known P sound region;
   }
 
-  pub rename-change : (region : ℕ) (key : NameKey) (name : List ℕ) → IsChange P slots L (commands.Rename region key name) own (modules_of P region) (Renames P L region key name)
+  pub rename-change : (region : ℕ) (key : NameKey) (name : List ℕ) → IsCommandOf P slots L (commands.Rename region key name) own (modules_of P region) (Renames P L region key name)
   rename-change region key name = record {
     does_so = λ reply after does. does;
     says = λ known fact is. is;
@@ -220,11 +203,10 @@ module _ (P : Platform) (sound : IsSound P) (slots : ℕ → ℕ) (L : Labels) (
     areas = λ areas now answer. tt;
     left = λ areas said c. tt;
     refuses = λ reply after does. refused-by (state P L) (IsRenamed P L region key name) (λ reply after done. ap is_change done.reply_is) reply after (first_of (rename_refusals P L region key name)) does;
-    known = region-known P sound region;
   }
 
-  pub release-change : (dimm : ℕ) (uuid : List ℕ) → list_any (λ handle. handle == dimm) P.modules ≡ true → IsChange P slots L (commands.ReleaseHeld dimm uuid) own (dimm ∷ []) (Releases P L dimm uuid)
-  release-change dimm uuid known = record {
+  pub release-change : (dimm : ℕ) (uuid : List ℕ) → IsCommandOf P slots L (commands.ReleaseHeld dimm uuid) own (dimm ∷ []) (Releases P L dimm uuid)
+  release-change dimm uuid = record {
     does_so = λ reply after does. does;
     says = λ known fact is. is;
     quiet = λ answer. refl;
@@ -232,12 +214,4 @@ module _ (P : Platform) (sound : IsSound P) (slots : ℕ → ℕ) (L : Labels) (
     areas = λ areas now answer. tt;
     left = λ areas said c. tt;
     refuses = λ reply after does. refused-by (state P L) (IsReleased P L dimm uuid) (λ reply after done. ap is_change done.reply_is) reply after (first_of (release_refusals P L dimm uuid)) does;
-    known = λ other is. only-known other is;
   }
-    where
-      only-known : (other : ℕ) → is_among (dimm ∷ []) other ≡ true → list_any (λ handle. handle == other) P.modules ≡ true
-      only-known other is = by (eqb other dimm) refl is
-        where
-          by : (b : Bool) → eqb other dimm ≡ b → (b || false) ≡ true → list_any (λ handle. handle == other) P.modules ≡ true
-          by true e t = subst (λ (handle : ℕ). list_any (λ h. h == handle) P.modules ≡ true) (sym (eqb-true other dimm e)) known
-          by false e t = absurd (let differ : false ≡ true = t in cc)

@@ -1,4 +1,4 @@
-use Rattle.std.proofs.Common.{◌≡◌, List, ℕ, Result, refl, sym, ap, subst, ◌∙◌}
+use Rattle.std.proofs.Common.{◌≡◌, List, [], ◌∷◌, ℕ, Result, refl, sym, ap, subst, ◌∙◌}
 use Rattle.std.specs.Option.{unwrap_or}
 use Rattle.view_types.specs.declared.reply.Reply.{Reply}
 use Rattle.cmd_words.specs.declared.commands.Command.{Command}
@@ -13,8 +13,10 @@ use Rattle.namespace_core.specs.Translations.{AreToRuns, IsToModule, IsToSpa}
 use Rattle.sessions.specs.Done.{IsDone, run_by}
 use Rattle.table_steps.specs.Create.{Creates}
 use Rattle.table_steps.specs.Destroy.{Destroys}
+use Rattle.table_steps.specs.Release.{Releases}
 use Rattle.table_steps.specs.Rename.{Renames}
-use Rattle.sessions.proofs.Changing.{HasChange, change-is-done, create-change, destroy-change, rename-change}
+use Rattle.namespace_core.specs.Commands.{IsChange}
+use Rattle.sessions.proofs.Changing.{change-is-done, create-change, destroy-change, region-among, release-among, release-change, rename-change}
 use Rattle.sessions.proofs.Telling.{tells-done, tells-of}
 use Rattle.sessions.proofs.commands.do_command.Goals as goal
 
@@ -37,15 +39,15 @@ returns-in-Create g c =
       abstraction = m.abstraction;
       sector = m.sector;
       uuid = unwrap_or m.uuid c.args.own.now;
-    })) (create-change P c.requires.sound (slots_at c.args.sets.now) L c.args.own.now m.region m.size m.name m.abstraction m.sector m.uuid) c.args.rig.now c.create.new.sets c.create.new.rig c.create.result
-    (subst (λ (uuid : List ℕ). HasChange g.R.Shown P (modules_of P m.region) (Creates P L (record {
+    })) (create-change P (slots_at c.args.sets.now) L c.args.own.now m.region m.size m.name m.abstraction m.sector m.uuid) c.args.rig.now c.create.new.sets c.create.new.rig c.create.result
+    (subst (λ (uuid : List ℕ). IsChange (modules_of P m.region) P (Creates P L (record {
       region = m.region;
       size = m.size;
       name = m.name;
       abstraction = m.abstraction;
       sector = m.sector;
       uuid = uuid;
-    })) c.args.sets.now c.args.rig.now c.create.new.sets c.create.new.rig c.create.result) uuid_is (record {
+    })) g.R.Shown c.args.sets.now c.args.rig.now c.create.new.sets c.create.new.rig c.create.result) uuid_is (record {
       step = c.create.ensures.step;
       refused = c.create.ensures.refused;
       unwritten = c.create.ensures.unwritten;
@@ -54,12 +56,13 @@ returns-in-Create g c =
       regions = c.create.ensures.regions;
       dimms = c.create.ensures.dimms;
       sizes = c.create.ensures.sizes;
-      stands = λ stand. c.create.ensures.stands stand.0 stand.1;
-      any_moment = λ stand. c.create.ensures.any_moment stand.0 stand.1;
+      stands = c.create.ensures.stands;
+      any_moment = c.create.ensures.any_moment;
       writes_among = c.create.ensures.writes_among;
       cause = c.create.ensures.cause;
       reads = c.create.ensures.reads;
-    })))
+    })
+    (region-among g.R.Shown c.args.rig.now c.create.new.rig P c.requires.sound m.region c.create.result c.create.ensures.cause)))
 
 pub returns-in-Destroy : goal.returns-in-Destroy
 returns-in-Destroy g c =
@@ -68,21 +71,8 @@ returns-in-Destroy g c =
     let L = labels_in c.args.sets.now in
     subst (λ (command : Command). IsDone g.R.Shown P command c.args.own.now c.args.sets.now c.args.rig.now c.destroy.new.sets c.destroy.new.rig (run_by c.destroy.result)) (sym m.is)
     (change-is-done g.R.Shown P c.args.sets.now c.requires.state (commands.Destroy m.region m.key) c.args.own.now (modules_of P m.region) (Destroys P L m.region m.key)
-    (destroy-change P c.requires.sound (slots_at c.args.sets.now) L c.args.own.now m.region m.key) c.args.rig.now c.destroy.new.sets c.destroy.new.rig c.destroy.result (record {
-      step = c.destroy.ensures.step;
-      refused = c.destroy.ensures.refused;
-      unwritten = c.destroy.ensures.unwritten;
-      memory = c.destroy.ensures.memory;
-      unwritten_memory = c.destroy.ensures.unwritten_memory;
-      regions = c.destroy.ensures.regions;
-      dimms = c.destroy.ensures.dimms;
-      sizes = c.destroy.ensures.sizes;
-      stands = λ stand. c.destroy.ensures.stands stand.0 stand.1;
-      any_moment = λ stand. c.destroy.ensures.any_moment stand.0 stand.1;
-      writes_among = c.destroy.ensures.writes_among;
-      cause = c.destroy.ensures.cause;
-      reads = c.destroy.ensures.reads;
-    }))
+    (destroy-change P (slots_at c.args.sets.now) L c.args.own.now m.region m.key) c.args.rig.now c.destroy.new.sets c.destroy.new.rig c.destroy.result c.destroy.ensures.change
+    (region-among g.R.Shown c.args.rig.now c.destroy.new.rig P c.requires.sound m.region c.destroy.result c.destroy.ensures.change.cause))
 
 pub returns-in-Rename : goal.returns-in-Rename
 returns-in-Rename g c =
@@ -91,21 +81,18 @@ returns-in-Rename g c =
     let L = labels_in c.args.sets.now in
     subst (λ (command : Command). IsDone g.R.Shown P command c.args.own.now c.args.sets.now c.args.rig.now c.rename.new.sets c.rename.new.rig (run_by c.rename.result)) (sym m.is)
     (change-is-done g.R.Shown P c.args.sets.now c.requires.state (commands.Rename m.region m.key m.name) c.args.own.now (modules_of P m.region) (Renames P L m.region m.key m.name)
-    (rename-change P c.requires.sound (slots_at c.args.sets.now) L c.args.own.now m.region m.key m.name) c.args.rig.now c.rename.new.sets c.rename.new.rig c.rename.result (record {
-      step = c.rename.ensures.step;
-      refused = c.rename.ensures.refused;
-      unwritten = c.rename.ensures.unwritten;
-      memory = c.rename.ensures.memory;
-      unwritten_memory = c.rename.ensures.unwritten_memory;
-      regions = c.rename.ensures.regions;
-      dimms = c.rename.ensures.dimms;
-      sizes = c.rename.ensures.sizes;
-      stands = λ stand. c.rename.ensures.stands stand.0 stand.1;
-      any_moment = λ stand. c.rename.ensures.any_moment stand.0 stand.1;
-      writes_among = c.rename.ensures.writes_among;
-      cause = c.rename.ensures.cause;
-      reads = c.rename.ensures.reads;
-    }))
+    (rename-change P (slots_at c.args.sets.now) L c.args.own.now m.region m.key m.name) c.args.rig.now c.rename.new.sets c.rename.new.rig c.rename.result c.rename.ensures.change
+    (region-among g.R.Shown c.args.rig.now c.rename.new.rig P c.requires.sound m.region c.rename.result c.rename.ensures.change.cause))
+
+pub returns-in-ReleaseHeld : goal.returns-in-ReleaseHeld
+returns-in-ReleaseHeld g c =
+    let m = c.in-ReleaseHeld in
+    let P = c.args.platform.now in
+    let L = labels_in c.args.sets.now in
+    subst (λ (command : Command). IsDone g.R.Shown P command c.args.own.now c.args.sets.now c.args.rig.now c.release_held.new.sets c.release_held.new.rig (run_by c.release_held.result)) (sym m.is)
+    (change-is-done g.R.Shown P c.args.sets.now c.requires.state (commands.ReleaseHeld m.dimm m.uuid) c.args.own.now (m.dimm ∷ []) (Releases P L m.dimm m.uuid)
+    (release-change P (slots_at c.args.sets.now) L c.args.own.now m.dimm m.uuid) c.args.rig.now c.release_held.new.sets c.release_held.new.rig c.release_held.result c.release_held.ensures.change
+    (release-among P c.release_held.result c.release_held.ensures.among))
 
 pub returns-in-ListSpaces : goal.returns-in-ListSpaces
 returns-in-ListSpaces g c =
