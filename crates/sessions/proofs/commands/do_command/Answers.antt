@@ -61,8 +61,8 @@ returns-in-Create g c =
       writes_among = c.create.ensures.writes_among;
       cause = c.create.ensures.cause;
       reads = c.create.ensures.reads;
-    })
-    (region-among g.R.Shown c.args.rig.now c.create.new.rig P c.requires.sound m.region c.create.result c.create.ensures.cause)))
+    }))
+    (region-among g.R.Shown c.args.rig.now c.create.new.rig P c.requires.sound m.region c.create.result c.create.ensures.cause))
 
 pub returns-in-Destroy : goal.returns-in-Destroy
 returns-in-Destroy g c =
