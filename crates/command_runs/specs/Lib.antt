@@ -5,3 +5,4 @@ pub mod Stops
 pub mod Areas
 pub mod Faults
 pub mod Ends
+pub mod Replies
