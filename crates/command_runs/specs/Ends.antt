@@ -6,6 +6,7 @@ use Rattle.label_table.specs.Tables.{State}
 use Rattle.sessions.specs.Sessions.{IsCurrent, StoredSession, slots_of, state_of}
 use Rattle.command_runs.specs.declared.faults.LineFault.{LineFault}
 use Rattle.command_runs.specs.declared.faults.LineFault.TheVariants.{Area, Memory, Say}
+use Rattle.command_runs.specs.Areas.{WritesNothing}
 use Rattle.command_runs.specs.Runs.{DoesNext, IsBehind, Progress, Run}
 use Rattle.command_runs.specs.Stops.{IsBetween}
 
@@ -34,7 +35,7 @@ pub record IsFinished {R : Type 0} (m : Ghosts R) (known : Type 0) (run : Run) (
   pub refused_is : refused ≡ progress.refused
   pub through : IsThrough m known progress (m.said old) new session
   -- where no reply is that to a change, no area is written
-  pub kept : progress.changed ≡ false → m.areas new ≡ m.areas old
+  pub kept : progress.changed ≡ false → WritesNothing m old new
 
 -- A front of the next reply was said, whose line is done.
 pub record IsCutOff {R : Type 0} (m : Ghosts R) (known : Type 0) (run : Run) (k : ℕ) (progress : Progress) (old new : R)
@@ -43,11 +44,10 @@ pub record IsCutOff {R : Type 0} (m : Ghosts R) (known : Type 0) (run : Run) (k 
   pub does : DoesNext known run k progress next
   pub text : List ℕ
   pub text_is : next.said ≡ progress.said ++ text
-  pub count : ℕ
-  pub said_is : known → m.said new ≡ m.said old ++ progress.said ++ take count text
+  pub said_is : known → (count : ℕ) × (m.said new ≡ m.said old ++ progress.said ++ take count text)
   pub state_is : state_of session ≡ next.state
   pub current : known → IsCurrent m new session
-  pub kept : next.changed ≡ false → m.areas new ≡ m.areas old
+  pub kept : next.changed ≡ false → WritesNothing m old new
 
 -- Nothing was said behind the replies. A stop leaves the table behind these lines, or behind one more.
 pub record IsStopped {R : Type 0} (m : Ghosts R) (known : Type 0) (run : Run) (k : ℕ) (progress : Progress)
@@ -60,7 +60,7 @@ pub record IsUnchanged {R : Type 0} (m : Ghosts R) (known : Type 0) (run : Run) 
     (old new : R) (session : StoredSession) : Type 0 where
   pub stopped : IsStopped m known run k progress old new
   pub through : IsThrough m known progress (m.said old) new session
-  pub kept : progress.changed ≡ false → m.areas new ≡ m.areas old
+  pub kept : progress.changed ≡ false → WritesNothing m old new
 
 abbrev pub IsEndedBy : {R : Type 0} → Ghosts R → Type 0 → Run → ℕ → Progress → R → R → StoredSession → LineFault → Type 0
 IsEndedBy m known run k progress old new session (Area dimm) = IsStopped m known run k progress old new

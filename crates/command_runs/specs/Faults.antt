@@ -1,5 +1,5 @@
 -- Why a list of lines is not done to its end, and which faults of the rig there were.
-use Rattle.std.specs.Prelude.{◌≡◌, ℕ, Bool, true, false, Result, Ok, Err}
+use Rattle.std.specs.Prelude.{◌≡◌, ℕ, ◌==◌, Bool, true, false, Result, Ok, Err}
 use Rattle.rig_trait.specs.declared.shown.Shown.{Ghosts}
 use Rattle.rig_trait.specs.Faults.{counted}
 use Rattle.rig_trait.specs.Frames.{FailsAt}
@@ -26,6 +26,13 @@ is_area (Ok value) = false
 is_area (Err (Area dimm)) = true
 is_area (Err Memory) = false
 is_area (Err Say) = false
+
+-- it failed at the area of this module
+abbrev pub fails_at : {T : Type 0} → Result T LineFault → ℕ → Bool
+fails_at (Ok value) dimm = false
+fails_at (Err (Area failed)) dimm = failed == dimm
+fails_at (Err Memory) dimm = false
+fails_at (Err Say) dimm = false
 
 -- The first fault ends a list, so no other count rose.
 pub record HasCause {R T : Type 0} (m : Ghosts R) (old new : R) (result : Result T LineFault) : Type 0 where

@@ -5,3 +5,5 @@ pub mod Stops
 pub mod Areas
 pub mod Faults
 pub mod Ends
+pub mod Replies
+pub mod Turns
