@@ -11,3 +11,10 @@ pub mod JoinedSteps
 pub mod AcceptedCreates
 pub mod RecoveredSpaces
 pub mod CreateEnds
+pub mod Fitting
+pub mod KeyedRefusals
+pub mod HeldTests
+pub mod ReleaseRefusals
+pub mod Passes
+pub mod ChangedSpaces
+pub mod ChangeEnds

@@ -35,7 +35,7 @@ use Rattle.namespace_core.specs.Create.{CanPutIn, IsPutIn, IsTableOf, IsTableOrW
 some-is : {x y : Space} → Some x ≡ Some y → x ≡ y
 some-is e = cc
 
-shows : (r : Region) (own : Labels) (new : Space) (b : Bool) (o : Option Label) → space_if r own b o ≡ Some new → (b ≡ true) × (any_read_only r own ≡ new.read_only)
+pub shows : (r : Region) (own : Labels) (new : Space) (b : Bool) (o : Option Label) → space_if r own b o ≡ Some new → (b ≡ true) × (any_read_only r own ≡ new.read_only)
 shows r own new false o e = absurd cc
 shows r own new true None e = absurd cc
 shows r own new true (Some l) e = (refl, ap (λ (s : Space). s.read_only) (some-is e))

@@ -38,7 +38,7 @@ use Rattle.table_steps.specs.Create.{Creates, IsCreated, created, keeps_uuid, ma
 use Rattle.table_steps.proofs.Fresh.{fresh}
 use Rattle.table_steps.proofs.Made.{made-is}
 use Rattle.table_steps.proofs.Uuids.{keeps-same}
-use Rattle.namespace_core.specs.Create.{CanPutIn, IsBeforeOrAfter, IsCreateRefusal, IsNewSpace, IsPutIn, IsTableAfter, IsTableOf, IsTableOrWith}
+use Rattle.namespace_core.specs.Create.{CanPutIn, IsBeforeOrAfter, IsCreateRefusal, IsNewSpace, IsPutIn, IsTableOf, IsTableOrWith}
 use Rattle.namespace_core.specs.Lists.{IsStateOf}
 use Rattle.namespace_core.proofs.AcceptedCreates.{HasFree, has-free}
 use Rattle.namespace_core.proofs.CreateEnds.{creates-accepted}
@@ -159,7 +159,7 @@ module _ (P : Platform) (sound : IsSound P) (sets mid : StoredSets) (in_P : IsSt
   put-fits s new N (inr with) = inr (record {
     reply = created a r s.offset (after s);
     after = after s;
-    creates = creates s new;
+    done = creates s new;
     table_is = sym (ap (λ (t : State). t.table) (state-there P mid mid-regions N)) ∙ with ∙ with-table s new;
   })
 

@@ -37,6 +37,7 @@ use Rattle.table_steps.specs.Create.{AreFreeOf, Creates, IsCreated, create_refus
 use Rattle.table_steps.specs.Refusals.{first_of}
 use Rattle.namespace_core.specs.declared.creation.ChangeFault.{ChangeFault}
 use Rattle.namespace_core.specs.declared.creation.ChangeFault.TheVariants as faults
+use Rattle.namespace_core.specs.Changes.{IsBeforeOrBehind}
 
 -- the first of the refusals of a create that applies, or none
 abbrev pub IsCreateRefusal : Platform → Labels → NewNamespace → Option Refusal → Type 0
@@ -56,17 +57,10 @@ pub record IsNewSpace (platform : Platform) (labels : Labels) (asked : NewNamesp
   pub first : IsFirstFit (is_common_free platform labels region) (part_length asked region) alignment space.offset
   pub is_made : new_space space ≡ made asked region space.offset
 
--- labels stand for the table behind a create
-pub record IsTableAfter (platform : Platform) (before : Labels) (asked : NewNamespace) (labels : Labels) : Type 0 where
-  pub reply : Reply
-  pub after : State
-  pub creates : Creates platform before asked reply after
-  pub table_is : table platform labels ≡ after.table
-
 -- labels stand for the table before a create, or for that behind it
 abbrev pub IsBeforeOrAfter : Platform → Labels → NewNamespace → Labels → Type 0
 IsBeforeOrAfter platform before asked labels =
-    (table platform labels ≡ table platform before) ⊎ IsTableAfter platform before asked labels
+    IsBeforeOrBehind platform before (Creates platform before asked) labels
 
 -- a fact where the reply is a refusal
 abbrev pub WhereRefused : Type 0 → Reply → Type 0

@@ -68,11 +68,11 @@ fn ready_refusal(
         .or(name_in_use(sets, index, &asked.name))
         .or(uuid_in_use(platform, sets, &asked.uuid))
         .or(no_space(sets, index, asked.size))
-        .or(no_slots(sets, index))
+        .or(no_slots(sets, index, LEAST_SPARE))
 }
 
 /// A namespace of the region is pending, and one of its modules has no slot for the labels of a recovery.
-fn unhealed(sets: &Sets, index: u16) -> Option<Refusal>
+pub(crate) fn unhealed(sets: &Sets, index: u16) -> Option<Refusal>
     ensures { OfRegion sets.now index (λ region. result
         ≡ unhealed_in (platform_in sets.now) (labels_in sets.now) region) }
 {
@@ -119,7 +119,7 @@ fn first_named(named: &Named) -> Option<[u8; 16]>
 }
 
 /// Whether a name is empty.
-fn is_unnamed(name: &[u8; 64]) -> bool
+pub(crate) fn is_unnamed(name: &[u8; 64]) -> bool
     ensures { result ≡ is_unnamed name.now }
 {
     name[0] == 0
@@ -149,12 +149,12 @@ fn no_space(sets: &Sets, index: u16, size: u64) -> Option<Refusal>
     }
 }
 
-/// A module of the region has too few slots for the label of a new namespace.
-fn no_slots(sets: &Sets, index: u16) -> Option<Refusal>
+/// A module of the region has fewer spare slots than `least`.
+pub(crate) fn no_slots(sets: &Sets, index: u16, least: u32) -> Option<Refusal>
     ensures { OfRegion sets.now index (λ region. result
-        ≡ no_slots_in (platform_in sets.now) (labels_in sets.now) 2 region) }
+        ≡ no_slots_in (platform_in sets.now) (labels_in sets.now) least region) }
 {
-    match sets.first_without_spare(index, LEAST_SPARE) {
+    match sets.first_without_spare(index, least) {
         Some(short) => Some(Refusal::NoSlots {
             dimm: short.dimm,
             spare: short.spare,

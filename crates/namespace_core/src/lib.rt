@@ -3,8 +3,11 @@
 
 mod create_refusals;
 mod creation;
+mod key_refusals;
 mod lists;
+mod recovering;
 mod refusals;
+mod release_refusals;
 mod translations;
 
 pub use creation::{ChangeFault, create};

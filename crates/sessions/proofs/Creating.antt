@@ -129,7 +129,7 @@ module _ {R : Type 0} (m : Ghosts R) (P : Platform) (sound : IsSound P) (sets : 
 
   fits-on : (L : Labels) → create.IsBeforeOrAfter P (labels_in sets) asked L → IsBeforeOrAfter P (slots_at sets) (labels_in sets) command own L
   fits-on L (inl same) = inl same
-  fits-on L (inr after) = inr (record { reply = after.reply; after = after.after; does = after.creates; table_is = after.table_is })
+  fits-on L (inr after) = inr (record { reply = after.reply; after = after.after; does = after.done; table_is = after.table_is })
 
   module _ (old : R) (now : StoredSets) (new : R) where
     create-step : (result : Result Reply ChangeFault) → HasCreate m P asked sets old now new result
