@@ -42,11 +42,16 @@ use Rattle.namespace_core.proofs.RecoveredSpaces.{state-there}
 use Rattle.cmd_words.specs.declared.commands.Command.TheVariants.{InitLabels}
 use Rattle.label_table.proofs.ListTests.{eq_same}
 use Rattle.namespace_staging.proofs.Records.{no_write, one_write_more}
-use Rattle.sessions.specs.Commands.{IsBeforeOrAfter, is_change, result_changes}
+use Rattle.sessions.specs.Commands.{IsBeforeOrAfter, has_module, is_change, result_changes}
 use Rattle.sessions.specs.Faults.{HasRunCause, IsRunAmong, IsRunAt}
 use Rattle.sessions.specs.Done.{IsDone, Stand, init_answer, init_refusal, run_by}
 use Rattle.label_area.proofs.Initialising.{looking}
 use Rattle.sessions.proofs.Telling.{no_call, standing, still}
+
+-- the areas are known where the platform has the module
+standing-if-known : {A : Type 0} (P : Platform) (dimm : ℕ) → has_module P dimm ≡ true → A ⊎ (has_module P dimm ≡ false) → A
+standing-if-known P dimm known (inl stand) = stand
+standing-if-known P dimm known (inr absent) = absurd (let differ : true ≡ false = sym known ∙ absent in cc)
 
 -- a module of the platform is kept
 found-in : (xs : List LoadedModule) (dimm : ℕ) → list_any (λ handle. handle == dimm) (map dimm_of xs) ≡ true → IsSome (find (is_of dimm) xs)
@@ -195,11 +200,12 @@ pub record HasInit {R : Type 0} (m : Ghosts R) (dimm : ℕ) (sets : StoredSets) 
 
 module _ {R : Type 0} (m : Ghosts R) (P : Platform) (sets : StoredSets) (in_P : IsStateOf P sets) (dimm : ℕ) (known : list_any (λ handle. handle == dimm) P.modules ≡ true) (own : List ℕ) (old : R) (now : StoredSets) (new : R) where
   init-step : (result : Result ℕ SetInitFault) → HasInit m dimm sets old now new result
-      → IfOk (run_by (init_answer dimm result)) (λ reply. Stand m old sets → Initialises P (labels_in sets) dimm (slots_at sets dimm) reply (state P (labels_in now)))
-  init-step (Ok slots) has = λ stand.
+      → IfOk (run_by (init_answer dimm result)) (λ reply. Stand m old sets ⊎ (has_module P dimm ≡ false) → Initialises P (labels_in sets) dimm (slots_at sets dimm) reply (state P (labels_in now)))
+  init-step (Ok slots) has = λ either.
       init-done P sets in_P dimm known (kept-kind P sets in_P dimm known has.uninit) slots has.slots (state P (labels_in now))
       (sym (state-there P now (has.regions ∙ in_P.regions) (labels_in now)) ∙ has.state_is ∙ after-is P sets in_P dimm known)
-  init-step (Err (inits.Refused told)) has = λ stand.
+  init-step (Err (inits.Refused told)) has = λ either.
+      let stand : Stand m old sets = standing-if-known P dimm known either in
       subst (λ (s : StoredSets). Initialises P (labels_in sets) dimm (slots_at sets dimm) (Refused (init_refusal dimm told)) (state P (labels_in s))) (sym has.kept)
       (init-refused P sets in_P dimm known told (has.refused stand) has.not_uninit (slots_at sets dimm))
   init-step (Err (inits.Failed failed)) has = tt
@@ -271,7 +277,7 @@ module _ {R : Type 0} (m : Ghosts R) (P : Platform) (sets : StoredSets) (in_P : 
 pub unknown-done : {R : Type 0} (m : Ghosts R) (P : Platform) (sets : StoredSets) → IsStateOf P sets → (dimm : ℕ) (own : List ℕ) (rig : R) → list_any (λ handle. handle == dimm) P.modules ≡ false
     → IsDone m P (InitLabels dimm) own sets rig sets rig (Ok (Refused (UnknownDimm dimm)))
 unknown-done m P sets in_P dimm own rig not_there = record {
-  step = λ stand. init-unknown P sets in_P dimm (list_any (λ handle. handle == dimm) P.modules) refl not_there (slots_at sets dimm);
+  step = λ either. init-unknown P sets in_P dimm (list_any (λ handle. handle == dimm) P.modules) refl not_there (slots_at sets dimm);
   stands = λ stand. stand.1;
   any_moment = still m P sets in_P (InitLabels dimm) own rig;
   kept = λ quiet. refl;

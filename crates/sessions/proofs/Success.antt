@@ -101,7 +101,7 @@ module _ (P : Platform) (L : Labels) (a : NewNamespace) (is : IsOpenFor P L a) w
 
 -- a create for which there is room makes its namespace
 pub can-create : {E : Type 0} (P : Platform) (slots : ℕ → ℕ) (L : Labels) (command : Command) (own : List ℕ) (after : State) (known : Type 0) (result : Result Reply E)
-    → IfOk result (λ reply. SaysIfKnown command known (Does P slots L command own reply after)) → CanCreate P L command own → IfOk result HasCreated
+    → IfOk result (λ reply. SaysIfKnown P command known (Does P slots L command own reply after)) → CanCreate P L command own → IfOk result HasCreated
 can-create P slots L (Create region size name abstraction sector uuid) own after known (Ok reply) step can = open-created P L _ can reply after step
 can-create P slots L (Create region size name abstraction sector uuid) own after known (Err fault) step can = tt
 can-create P slots L (InitLabels dimm) own after known result step can = absurd can

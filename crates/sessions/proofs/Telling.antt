@@ -92,13 +92,13 @@ module _ {R : Type 0} (m : Ghosts R) (P : Platform) (sets : StoredSets) (in_P : 
     told-step fact (Err error) is = tt
 
     pub tells-done : (result : Result Reply AllocError)
-        → IfOk result (λ reply. SaysIfKnown command (Stand m rig sets) (Does P (slots_at sets) (labels_in sets) command own reply (state P (labels_in sets))))
+        → IfOk result (λ reply. SaysIfKnown P command (Stand m rig sets) (Does P (slots_at sets) (labels_in sets) command own reply (state P (labels_in sets))))
         → ((answer : Result Reply RunFault) → may_change command answer ≡ false)
         → ((areas now : Areas) (answer : Result Reply RunFault) → HasAreas command areas now answer)
         → ((areas : Areas) (said : List ℕ) (c : CrashRecord) → LeavesArea command areas said c)
         → IsDone m P command own sets rig sets rig (run_by (told_by result))
     tells-done result step quiet area left = record {
-      step = told-step (λ reply. SaysIfKnown command (Stand m rig sets) (Does P (slots_at sets) (labels_in sets) command own reply (state P (labels_in sets)))) result step;
+      step = told-step (λ reply. SaysIfKnown P command (Stand m rig sets) (Does P (slots_at sets) (labels_in sets) command own reply (state P (labels_in sets)))) result step;
       stands = λ stand. stand-ok result stand.1;
       any_moment = still command own rig;
       kept = λ quiet_so. refl;

@@ -1,6 +1,7 @@
 -- What a command does to the state that labels stand for, what it writes, and what a stop leaves of it.
-use Rattle.std.specs.Prelude.{◌≡◌, ◌≢◌, ◌⊎◌, ℕ, Bool, true, false, IfOk, List, [], ◌∷◌, Result, Ok, Err}
+use Rattle.std.specs.Prelude.{◌≡◌, ◌≢◌, ◌⊎◌, ℕ, ◌==◌, Bool, true, false, IfOk, List, [], ◌∷◌, Result, Ok, Err}
 use Rattle.std.specs.FinMap.{get}
+use Rattle.std.specs.List.{list_any}
 use Rattle.view_types.specs.declared.reply.Reply.{Reply}
 use Rattle.view_types.specs.declared.reply.Reply.TheVariants as replies
 use Rattle.rig_trait.specs.Areas.{Areas}
@@ -75,18 +76,22 @@ is_init (ToModule region spa) = false
 is_init (ToSpa region dimm dpa) = false
 is_init (ToRuns region spa len) = false
 
+-- the platform has a module with this handle
+abbrev pub has_module : Platform → ℕ → Bool
+has_module platform dimm = list_any (λ handle. handle == dimm) platform.modules
+
 -- `init-labels` reads the area again, so what it says is that of the step only where the areas are known to be those that
--- are kept. The other commands look at no area.
-abbrev pub SaysIfKnown : Command → Type 0 → Type 0 → Type 0
-SaysIfKnown (InitLabels dimm) known fact = known → fact
-SaysIfKnown (Create region size name abstraction sector uuid) known fact = fact
-SaysIfKnown (ListSpaces region) known fact = fact
-SaysIfKnown ListRegions known fact = fact
-SaysIfKnown (ListFree region) known fact = fact
-SaysIfKnown (ListHeld dimm) known fact = fact
-SaysIfKnown (ToModule region spa) known fact = fact
-SaysIfKnown (ToSpa region dimm dpa) known fact = fact
-SaysIfKnown (ToRuns region spa len) known fact = fact
+-- are kept, or where the platform has no such module. The other commands look at no area.
+abbrev pub SaysIfKnown : Platform → Command → Type 0 → Type 0 → Type 0
+SaysIfKnown platform (InitLabels dimm) known fact = known ⊎ (has_module platform dimm ≡ false) → fact
+SaysIfKnown platform (Create region size name abstraction sector uuid) known fact = fact
+SaysIfKnown platform (ListSpaces region) known fact = fact
+SaysIfKnown platform ListRegions known fact = fact
+SaysIfKnown platform (ListFree region) known fact = fact
+SaysIfKnown platform (ListHeld dimm) known fact = fact
+SaysIfKnown platform (ToModule region spa) known fact = fact
+SaysIfKnown platform (ToSpa region dimm dpa) known fact = fact
+SaysIfKnown platform (ToRuns region spa len) known fact = fact
 
 -- the modules whose areas a command may write
 abbrev pub written_by : Platform → Command → List ℕ

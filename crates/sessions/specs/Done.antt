@@ -38,7 +38,7 @@ Stand m rig sets = IsTold m rig × All (StandsIn (m.areas rig)) sets.modules
 -- a command was done, with this answer
 pub record IsDone {R : Type 0} (m : Ghosts R) (platform : Platform) (command : Command) (own : List ℕ)
     (sets : StoredSets) (old : R) (now : StoredSets) (new : R) (answer : Result Reply RunFault) : Type 0 where
-  pub step : IfOk answer (λ reply. SaysIfKnown command (Stand m old sets)
+  pub step : IfOk answer (λ reply. SaysIfKnown platform command (Stand m old sets)
       (Does platform (slots_at sets) (labels_in sets) command own reply (state platform (labels_in now))))
   pub stands : Stand m old sets → OnOk answer (All (StandsIn (m.areas new)) now.modules)
   pub any_moment : Stand m old sets → LeavesOnly m old new (LeftIn platform.modules (m.said old)

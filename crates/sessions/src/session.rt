@@ -89,8 +89,8 @@ impl Session {
         requires sized { IsTold R.Shown rig.old → All (IsSizedIn (R.areas rig.old)) self.old.sets.modules }
 
         // The reply and the state are those of the step.
-        ensures step { IfOk result (λ reply. SaysIfKnown command.now (IsCurrent R.Shown rig.old self.old)
-            (Does self.old.platform (slots_of self.old) (labels_of self.old) command.now own reply
+        ensures step { IfOk result (λ reply. SaysIfKnown self.old.platform command.now
+            (IsCurrent R.Shown rig.old self.old) (Does self.old.platform (slots_of self.old) (labels_of self.old) command.now own reply
             (state_of self.new))) }
         ensures current { IsCurrent R.Shown rig.old self.old → OnOk result (IsCurrent R.Shown rig.new self.new) }
 

@@ -1,7 +1,7 @@
 //! The uuids of new namespaces for which commands give none.
 
 ghost use Rattle.std.specs.Prelude.{◌≡◌};
-ghost use Rattle.nd_cli.specs.Uuids.{own_uuid};
+ghost use Rattle.command_runs.specs.Uuids.{own_uuid};
 
 use report_json::ShortText;
 use uuid::Uuid;

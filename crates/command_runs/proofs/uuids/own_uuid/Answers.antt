@@ -4,8 +4,8 @@ use Rattle.sha1.specs.Sha1.{sha1}
 use Rattle.uuid.specs.declared.Variant.TheVariants.{RFC4122}
 use Rattle.uuid.specs.declared.Version.TheVariants.{Sha1}
 use Rattle.uuid.specs.Parts.{with_variant, with_version}
-use Rattle.nd_cli.specs.Uuids.{own_uuid}
-use Rattle.nd_cli.proofs.uuids.own_uuid.Goals as goal
+use Rattle.command_runs.specs.Uuids.{own_uuid}
+use Rattle.command_runs.proofs.uuids.own_uuid.Goals as goal
 
 pub returns : goal.returns
 unfolding own_uuid
