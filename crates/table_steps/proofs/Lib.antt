@@ -23,3 +23,4 @@ pub mod Destroyed
 pub mod Renamed
 pub mod Released
 pub mod Replies
+pub mod Unready
