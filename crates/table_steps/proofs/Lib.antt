@@ -13,6 +13,7 @@ pub mod KnownRegions
 pub mod Fresh
 mod Examples
 mod Rows
+mod ChangeRows
 pub mod FreeLists
 pub mod AcceptedChanges
 pub mod AcceptedReleases
