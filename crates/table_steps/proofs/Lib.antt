@@ -2,6 +2,7 @@ pub mod Lists
 pub mod Sizes
 pub mod Accepted
 pub mod Marks
+pub mod Names
 pub mod Created
 pub mod Uuids
 pub mod SameRegions
