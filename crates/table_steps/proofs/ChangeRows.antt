@@ -2,6 +2,7 @@
 use Rattle.std.proofs.Common.{◌≡◌, ℕ, true, false, [], ◌∷◌, Some, None, refl}
 use Rattle.std.specs.Prelude.{replicate}
 use Rattle.view_types.specs.declared.refusal.Refusal.TheVariants.{Ambiguous, NameInUse, NoSlots, NotHeld, NotReady, ReadOnly, Unhealed, UnknownDimm, UnknownNamespace, UnknownRegion}
+use Rattle.view_types.specs.declared.reply.Reply.TheVariants.{Destroyed, Released, Renamed}
 use Rattle.view_types.specs.declared.states.AreaState.TheVariants as state
 use Rattle.view_types.specs.declared.states.Status.TheVariants as shown
 use Rattle.cmd_words.specs.declared.name_keys.NameKey.TheVariants.{Name, Uuid}
@@ -12,11 +13,11 @@ use Rattle.label_table.specs.Fates.{held_count}
 use Rattle.label_table.specs.Spaces.{Space}
 use Rattle.label_table.specs.Tables as tables
 use Rattle.label_table.specs.Tables.{State}
-use Rattle.table_steps.specs.Destroy.{destroy_refusals, with_destroyed}
+use Rattle.table_steps.specs.Destroy.{IsDestroyed, destroy_refusals, with_destroyed}
 use Rattle.table_steps.specs.Namespaces.{fitting}
 use Rattle.table_steps.specs.Refusals.{first_of}
-use Rattle.table_steps.specs.Release.{release_refusals, released}
-use Rattle.table_steps.specs.Rename.{rename_refusals, with_renamed}
+use Rattle.table_steps.specs.Release.{IsReleased, release_refusals, released}
+use Rattle.table_steps.specs.Rename.{IsRenamed, rename_refusals, with_renamed}
 use Rattle.table_steps.proofs.Examples.{db0, db1, empty_area, first_uuid, label, no_label, no_name, one_label, ready_area, region, second_uuid, small, third_uuid, two_modules, with_one, with_spaces}
 
 -- Three namespaces stand one after the other. The one in the middle is destroyed, and its range is free.
@@ -121,3 +122,16 @@ release-rows = (refl, refl, refl, refl, refl, refl, refl, refl, refl, refl)
 missing-rows : (first_of (release_refusals small (two_modules (held 8 0x1) (empty_area Missing)) 0x1 first_uuid) ≡ Some (NotReady (shown.Area 0x101 state.Missing)))
     × (first_of (release_refusals small (two_modules (held 8 0x1) (empty_area Missing)) 0x101 first_uuid) ≡ Some (NotReady (shown.Area 0x101 state.Missing)))
 missing-rows = (refl, refl)
+
+-- The steps themselves.
+abbrev middle : Space
+middle = record { uuid = second_uuid; name = no_name; abstraction = replicate 16 0; sector = 512; offset = 2097152; length = 2097152; read_only = false }
+
+destroyed-row : IsDestroyed small three 1 (Uuid second_uuid) (Destroyed second_uuid) behind
+destroyed-row = record { region = region; found = refl; space = middle; only = refl; after_is = refl; reply_is = refl }
+
+renamed-row : IsRenamed small named 1 (Name db0) db0 (Renamed first_uuid db0) (with_renamed region db0 own (tables.state small named))
+renamed-row = record { region = region; found = refl; space = own; only = refl; after_is = refl; reply_is = refl }
+
+released-row : IsReleased small (held 0) 0x1 first_uuid (Released 1) (released small 0x1 first_uuid (tables.state small (held 0)))
+released-row = record { after_is = refl; reply_is = refl }
