@@ -9,6 +9,7 @@ mod largest;
 mod load;
 mod lookups;
 mod read;
+mod release;
 mod room;
 mod sets;
 mod staging;

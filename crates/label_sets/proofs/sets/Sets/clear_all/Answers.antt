@@ -20,7 +20,8 @@ use Rattle.module_flips.specs.Together.{IsTogether}
 use Rattle.namespace_healing.specs.Healing.{CanHeal}
 use Rattle.namespace_healing.specs.Passes.{room_in}
 use Rattle.label_sets.specs.Kept.{HasFewMembers, IsKnownFree, shown}
-use Rattle.label_sets.specs.Room.{HasRoom, HasSlotsWithin}
+use Rattle.label_sets.specs.Room.{HasRoom}
+use Rattle.module_sweeps.specs.Sweeps.{HasSlotsWithin}
 use Rattle.label_sets.specs.Sets.{StoredSets, platform_in}
 use Rattle.label_sets.specs.Healing.{CanHealIn}
 use Rattle.label_sets.proofs.EntryCounts.{counts-at, room-kept}
