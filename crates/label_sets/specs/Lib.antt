@@ -11,3 +11,6 @@ pub mod Largest
 pub mod Lookups
 pub mod Staging
 pub mod Healing
+pub mod Dropping
+pub mod Marking
+pub mod Renaming
