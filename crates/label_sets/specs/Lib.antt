@@ -12,3 +12,6 @@ pub mod Largest
 pub mod Lookups
 pub mod Staging
 pub mod Healing
+pub mod Dropping
+pub mod Marking
+pub mod Renaming
