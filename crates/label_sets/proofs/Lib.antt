@@ -17,3 +17,5 @@ pub mod FreeAfter
 pub mod Stageable
 pub mod Written
 pub mod EntryCounts
+pub mod Passes
+pub mod Renamed

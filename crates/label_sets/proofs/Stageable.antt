@@ -1,11 +1,12 @@
 -- A namespace can be staged in a Ready region of a sound platform.
-use Rattle.std.proofs.Common.{◌≡◌, ℕ, zero, suc, ◌+◌, ◌*◌, ◌-◌, ◌/◌, ◌<◌, ◌≤◌, ◌^◌, Bool, true, false, cond, eqb, ◌&&◌, List, [], ◌∷◌, length, get_or, map, Option, Some, None, refl, sym, ap, subst, ◌∙◌, arith}
-use Rattle.std.specs.Prelude.{◌==◌, find, nat_lt}
+use Rattle.std.proofs.Common.{◌≡◌, ℕ, suc, ◌+◌, ◌*◌, ◌-◌, ◌/◌, ◌<◌, ◌≤◌, ◌^◌, Bool, true, false, cond, eqb, ◌&&◌, List, [], ◌∷◌, length, get_or, map, Option, Some, None, refl, sym, ap, subst, ◌∙◌, arith}
+use Rattle.std.specs.Prelude.{◌==◌, find}
 use Rattle.std.specs.List.{All, Contains, list_all}
 use Rattle.std.proofs.Math.Nat.{mul-div_cancel_left}
 use Rattle.std.proofs.lemmas.Bool.{and_parts, ltb-true}
 use Rattle.std.proofs.lemmas.List.{get_or-map, length-map}
 use Rattle.std.proofs.lemmas.List.Elements.{Contains-get_or}
+use Rattle.std.proofs.lemmas.Option.{IfSome_then}
 use Rattle.view_types.specs.declared.namespaces.Namespace.{Namespace}
 use Rattle.extent_alloc.specs.Free.{FreeSpace}
 use Rattle.module_labels.specs.declared.kind.AreaKind.{AreaKind}
@@ -22,13 +23,13 @@ use Rattle.label_table.specs.Flips.{HasNone}
 use Rattle.label_table.specs.Statuses.{RegionReady, first_not_ready, status}
 use Rattle.label_table.specs.Tables.{is_member}
 use Rattle.label_table.specs.Wholes.{all_ready}
-use Rattle.label_table.proofs.StatusLaws.{IsReadyRegion, ready-parts}
+use Rattle.label_table.proofs.StatusLaws.{ready-parts}
 use Rattle.region_sets.specs.declared.modules.LoadedModule.{LoadedModule}
 use Rattle.region_sets.specs.declared.region.RegionLabels.{RegionLabels}
 use Rattle.region_sets.specs.Fates.{platform_of, region_in}
 use Rattle.region_sets.specs.Modules.{labels_in}
 use Rattle.module_flips.specs.Together.{IsTogether, free_slots}
-use Rattle.label_sets.specs.Kept.{AllFree}
+use Rattle.label_sets.specs.Kept.{IsKnownFree}
 use Rattle.label_sets.specs.Room.{HasExtentRoom, HasRoom}
 use Rattle.label_sets.specs.Staging.{CanStageAt, IsOpenRange}
 use Rattle.label_sets.specs.Views.{IsPlaceOf}
@@ -109,7 +110,7 @@ module _ (P : Platform) (sound : IsSound P) (ms : List LoadedModule) (rs : List 
   pub place-ordered : AreOrdered (map region_in rs)
   place-ordered = subst AreOrdered same (ordered P sound)
 
-  pub can-stage : (free : List FreeSpace) (space : Namespace) → IsTogether ms rs → AllFree ms rs free → HasRoom rs free
+  pub can-stage : (free : Option (List FreeSpace)) (space : Namespace) → IsTogether ms rs → IsKnownFree ms rs free → HasRoom rs free
       → status (labels_in ms) r ≡ RegionReady → All (λ (member : Member). HasNone space.uuid (labels_in ms member.handle)) r.members
       → All (λ (loaded : LoadedModule). is_member r loaded.dimm ≡ true → 0 < free_slots loaded) ms
       → IsOpenRange (platform_of rs) (labels_in ms) r space → 0 < space.length → CanStageAt ms rs free place r space
@@ -137,8 +138,8 @@ module _ (P : Platform) (sound : IsSound P) (ms : List LoadedModule) (rs : List 
     is_open = is_open;
     ordered = place-ordered;
     all_free = all_free;
-    spare = λ e.
+    spare = IfSome_then free room.extents (λ spaces rooms e.
         let d = (element rs place place-within).0 in
-        let more : HasExtentRoom (get_or rs place d) (get_or free place e) = room.extents place d e place-within in
-        omega (arith, more);
+        let more : HasExtentRoom (get_or rs place d) (get_or spaces place e) = rooms place d e place-within in
+        omega (arith, more));
   }

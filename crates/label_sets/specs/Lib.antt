@@ -4,9 +4,13 @@ pub mod Loads
 pub mod Codes
 pub mod Sets
 pub mod Room
+pub mod Free
 pub mod Kept
 pub mod Views
 pub mod Largest
 pub mod Lookups
 pub mod Staging
 pub mod Healing
+pub mod Dropping
+pub mod Marking
+pub mod Renaming

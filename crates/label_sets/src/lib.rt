@@ -2,12 +2,16 @@
 //! swept (UEFI 2.7, section 13.19).
 #![tactic(auto)]
 
+mod dropping;
+mod free;
 mod healing;
 mod init;
 mod largest;
 mod load;
 mod lookups;
+mod marking;
 mod read;
+mod renaming;
 mod room;
 mod sets;
 mod staging;
