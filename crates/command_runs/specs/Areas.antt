@@ -44,9 +44,9 @@ changed_by platform lines = flat_map (λ line. changed_by_line platform (command
 abbrev pub initialised_by : Platform → List (List ℕ) → List ℕ
 initialised_by platform lines = flat_map (λ line. initialised_by_line platform (command_in line)) lines
 
--- a module of the platform whose area a line may initialise, and it was Uninit
-pub record MayInitialise (platform : Platform) (lines : List (List ℕ)) (dimm : ℕ) (areas : Areas) : Type 0 where
-  pub named : is_among (initialised_by platform lines) dimm ≡ true
+-- a module of the platform whose area may be initialised, one of those that are named; and it was Uninit
+pub record MayInitialise (platform : Platform) (named : List ℕ) (dimm : ℕ) (areas : Areas) : Type 0 where
+  pub is_named : is_among named dimm ≡ true
   pub known : has_module platform dimm ≡ true
   pub was_uninit : area_kind (get areas dimm) ≡ Uninit
 
@@ -56,10 +56,14 @@ abbrev pub IsWritten : Bool → ℕ → Areas → Areas → Type 0
 IsWritten true dimm areas now = Unit {0}
 IsWritten false dimm areas now = get now dimm ≡ get (initialised dimm areas) dimm
 
--- An area that no line changes has its bytes, or it was initialised. `failed` is where the rig failed.
+-- An area whose labels do not change has its bytes, or it was initialised. `failed` is where the rig failed.
+abbrev pub KeepsAreas : (ℕ → Bool) → Platform → List ℕ → List ℕ → Areas → Areas → Type 0
+KeepsAreas failed platform changed named areas now = (dimm : ℕ) → is_among changed dimm ≡ false
+    → (get now dimm ≡ get areas dimm) ⊎ (MayInitialise platform named dimm areas × IsWritten (failed dimm) dimm areas now)
+
 abbrev pub KeepsBytes : (ℕ → Bool) → Platform → List (List ℕ) → Areas → Areas → Type 0
-KeepsBytes failed platform lines areas now = (dimm : ℕ) → is_among (changed_by platform lines) dimm ≡ false
-    → (get now dimm ≡ get areas dimm) ⊎ (MayInitialise platform lines dimm areas × IsWritten (failed dimm) dimm areas now)
+KeepsBytes failed platform lines areas now =
+    KeepsAreas failed platform (changed_by platform lines) (initialised_by platform lines) areas now
 
 -- whatever the answer to the command is, it changes nothing
 abbrev pub OnlyTells : Command → Type 0
@@ -74,12 +78,15 @@ LeavesLabels (Err fault) = Unit {0}
 abbrev pub LeaveLabels : List (List ℕ) → Type 0
 LeaveLabels lines = All (λ line. LeavesLabels (command_in line)) lines
 
--- What a stop leaves of each area where no line changes labels: it has its bytes; or it was Uninit, and in a fair record
--- it is so still, or is Ready without labels.
-abbrev pub LeavesBytes : Platform → List (List ℕ) → Areas → CrashRecord → Type 0
-LeavesBytes platform lines areas c = (dimm : ℕ) → (get c.areas dimm ≡ get areas dimm)
-    ⊎ (MayInitialise platform lines dimm areas
+-- What a stop leaves of areas where no labels change: each has its bytes; or it was Uninit, and in a fair record it is so
+-- still, or is Ready without labels.
+abbrev pub LeavesAreas : Platform → List ℕ → Areas → CrashRecord → Type 0
+LeavesAreas platform named areas c = (dimm : ℕ) → (get c.areas dimm ≡ get areas dimm)
+    ⊎ (MayInitialise platform named dimm areas
     × (IsFair c → (area_kind (get c.areas dimm) ≡ Uninit) ⊎ IsVacant (get c.areas dimm) (slots_of (get areas dimm))))
+
+abbrev pub LeavesBytes : Platform → List (List ℕ) → Areas → CrashRecord → Type 0
+LeavesBytes platform lines areas c = LeavesAreas platform (initialised_by platform lines) areas c
 
 -- nothing was written, and a stop at any moment leaves all areas as they were
 pub record WritesNothing {R : Type 0} (m : Ghosts R) (old new : R) : Type 0 where

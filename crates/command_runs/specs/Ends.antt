@@ -44,8 +44,7 @@ pub record IsCutOff {R : Type 0} (m : Ghosts R) (known : Type 0) (run : Run) (k 
   pub does : DoesNext known run k progress next
   pub text : List ℕ
   pub text_is : next.said ≡ progress.said ++ text
-  pub count : ℕ
-  pub said_is : known → m.said new ≡ m.said old ++ progress.said ++ take count text
+  pub said_is : known → (count : ℕ) × (m.said new ≡ m.said old ++ progress.said ++ take count text)
   pub state_is : state_of session ≡ next.state
   pub current : known → IsCurrent m new session
   pub kept : next.changed ≡ false → WritesNothing m old new
