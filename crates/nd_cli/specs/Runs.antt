@@ -1,5 +1,5 @@
 -- How lines end that are done on a platform, and what a stop leaves of them.
-use Rattle.std.specs.Prelude.{◌≡◌, ℕ, ◌<◌, Bool, true, false, List, ◌++◌, Result, Ok, Err, if◌then◌else◌, length, take}
+use Rattle.std.specs.Prelude.{◌≡◌, ℕ, ◌<◌, Bool, true, false, List, [], ◌++◌, Result, Ok, Err, if◌then◌else◌, length, take}
 use Rattle.rig_trait.specs.Areas.{Areas}
 use Rattle.rig_trait.specs.declared.shown.Shown.{Ghosts}
 use Rattle.rig_trait.specs.Faults.{counted}
@@ -47,11 +47,12 @@ pub record IsCutOff {R : Type 0} (m : Ghosts R) (run : Run) (old new : R) (statu
   pub behind : IsBehind (IsTold m old) run done progress
   pub next : Progress
   pub does : DoesNext (IsTold m old) run done progress next
+  -- a blank line and a comment have no reply that could be cut off
   pub text : List ℕ
+  pub some : ¬ (text ≡ [])
   pub text_is : next.said ≡ progress.said ++ text
-  pub count : ℕ
   pub status_is : status ≡ 7
-  pub said_is : IsTold m old → m.said new ≡ m.said old ++ progress.said ++ take count text
+  pub said_is : IsTold m old → (count : ℕ) × (m.said new ≡ m.said old ++ progress.said ++ take count text)
   pub areas_are : IsTold m old → StandFor run.platform (m.areas new) next.state
   pub kept : next.changed ≡ false → WritesNothing m old new
   pub say_faults : m.say_faults new ≡ counted true (m.say_faults old)
@@ -80,6 +81,13 @@ EndsBy m run old new status (Ok refused) = IsDone m run old new status
 EndsBy m run old new status (Err Say) = IsCutOff m run old new status
 EndsBy m run old new status (Err (Area dimm)) = IsEnded m run (faults.Area dimm) old new status
 EndsBy m run old new status (Err Memory) = WantsMemory m run old new status
+
+-- what is said behind the lines, and the status
+abbrev pub SaysEnd : {R : Type 0} → Ghosts R → R → R → Result Bool LineFault → ℕ → Type 0
+SaysEnd m old new (Ok refused) status = (new ≡ old) × (status ≡ refused_status refused)
+SaysEnd m old new (Err Say) status = (new ≡ old) × (status ≡ 7)
+SaysEnd m old new (Err (Area dimm)) status = Says m old new (fault_line (faults.Area dimm)) 4 status
+SaysEnd m old new (Err Memory) status = Says m old new (fault_line faults.Memory) 6 status
 
 -- The lines are done from the state that the areas stand for, to the end or up to a fault. No call failed but the one that
 -- is the fault, and that which should have said its line.

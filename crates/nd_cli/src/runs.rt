@@ -3,8 +3,7 @@
 ghost use Rattle.std.specs.Prelude.{◌≡◌, map};
 ghost use Rattle.region_map.specs.Platforms.{IsSound};
 ghost use Rattle.rig_trait.specs.Frames.{GoesOn};
-ghost use Rattle.nd_cli.specs.Runs.{EndsOn};
-ghost use Rattle.nd_cli.specs.Statuses.{code_of, refused_status};
+ghost use Rattle.nd_cli.specs.Runs.{EndsOn, SaysEnd};
 
 use crate::faults::{Fault, start_fault};
 use crate::saying::say_fault;
@@ -32,17 +31,21 @@ pub fn run_on<R: Rig>(
         Ok(session) => session,
         Err(fault) => return say_fault(rig, start_fault(fault)),
     };
-    match run_lines(alloc, rig, &mut session, lines, seed) {
-        Ok(refused) => done_status(refused).code(),
-        Err(LineFault::Say) => Status::Say.code(),
-        Err(LineFault::Area { dimm }) => say_fault(rig, Fault::Area { dimm }),
-        Err(LineFault::Memory) => say_fault(rig, Fault::Memory),
-    }
+    let outcome = run_lines(alloc, rig, &mut session, lines, seed);
+    say_end(rig, outcome)
 }
 
-/// How a run ends that no fault ended.
-fn done_status(refused: bool) -> Status
-    ensures { code_of result ≡ refused_status refused }
+/// Says the line of the fault that ended lines, and gives the status. Behind a reply that could not be said whole nothing
+/// is said.
+fn say_end<R: Rig>(rig: &mut R, outcome: Result<bool, LineFault>) -> u8
+    ensures ends { SaysEnd R.Shown rig.old rig.new outcome result }
+    ensures goes_on { GoesOn R.Shown rig.old rig.new }
 {
-    if refused { Status::Refused } else { Status::Ok }
+    match outcome {
+        Ok(false) => Status::Ok.code(),
+        Ok(true) => Status::Refused.code(),
+        Err(LineFault::Area { dimm }) => say_fault(rig, Fault::Area { dimm }),
+        Err(LineFault::Memory) => say_fault(rig, Fault::Memory),
+        Err(LineFault::Say) => Status::Say.code(),
+    }
 }

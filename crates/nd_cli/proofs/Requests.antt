@@ -1,0 +1,58 @@
+-- Runs that end before any area is asked for anything.
+use Rattle.std.proofs.Common.{◌≡◌, ℕ, false, Option, Some, None, refl, inl, arith}
+use Rattle.std.specs.Prelude.{IsSome}
+use Rattle.rig_trait.specs.declared.shown.Shown as rigs
+use Rattle.rig_trait.specs.declared.source.Source as sources
+use Rattle.rig_trait.specs.Frames.{GoesOn, Reads}
+use Rattle.rig_trait.specs.Sources.{Draws}
+use Rattle.nd_cli.specs.declared.faults.Fault.TheVariants.{Memory}
+use Rattle.nd_cli.specs.Ends.{Ends, EndsInput, EndsLine, HasNoPlatform}
+use Rattle.nd_cli.specs.Ends as ends
+use Rattle.nd_cli.specs.Labels.{WantsMemory}
+use Rattle.nd_cli.specs.Saying.{Says}
+use Rattle.nd_cli.specs.Texts.{fault_line}
+use Rattle.nd_cli.specs.Words.{Asked, LabelsOf, DoLine, RunInput}
+
+-- nothing was asked of the source
+unread : {N : Type 0} (n : sources.Ghosts N) (source : N) → Draws n source source false
+unread n source = record { tells = refl; faults = refl }
+
+-- nor of the rig
+no_call : {R : Type 0} (m : rigs.Ghosts R) (rig : R) → Reads m rig rig
+no_call m rig = record {
+  areas = refl;
+  said = refl;
+  say_faults = refl;
+  time = record {
+    later = omega arith;
+    nothing_else = λ t c past left. inl left;
+    keeps = λ t c past left. left;
+    left_is = λ c left. left;
+    joins = λ t c past left. inl left;
+  };
+  goes_on = record {
+    tells = refl;
+    tells_records = λ told. told;
+    sizes = λ told q. refl;
+    faults = omega arith;
+    say_faults = omega arith;
+    reads = omega arith;
+  };
+}
+
+-- memory was refused while the words were looked at
+pub unasked : {R N I : Type 0} (m : rigs.Ghosts R) (n : sources.Ghosts N) (i : sources.Ghosts I) (seed : ℕ) (asked : Option Asked) (old new : R) (nfit : N) (input : I) (status : ℕ)
+    → IsSome asked → Says m old new (fault_line Memory) 6 status → Ends m n i seed asked old new nfit nfit input input status
+unasked m n i seed None old new nfit input status some says = absurd some
+unasked m n i seed (Some (LabelsOf dimm)) old new nfit input status some says = record {
+  read = old;
+  reads = no_call m old;
+  answer = WantsMemory;
+  is_answer = λ told. tt;
+  faults = record { faults = refl; failed_dimm = refl };
+  says = says;
+}
+unasked m n i seed (Some (DoLine line)) old new nfit input status some says =
+    ends.line_without (record { fault = Memory; cause = tt; draws = unread n nfit; says = says })
+unasked m n i seed (Some RunInput) old new nfit input status some says =
+    ends.input_without (record { fault = Memory; cause = tt; draws = unread n nfit; says = says }) refl
