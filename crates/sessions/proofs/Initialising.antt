@@ -49,9 +49,9 @@ use Rattle.label_area.proofs.Initialising.{looking}
 use Rattle.sessions.proofs.Telling.{no_call, standing, still}
 
 -- the areas are known where the platform has the module
-standing-if-known : {A : Type 0} {P : Platform} {dimm : ℕ} → has_module P dimm ≡ true → A ⊎ (has_module P dimm ≡ false) → A
-standing-if-known known (inl stand) = stand
-standing-if-known known (inr absent) = absurd (let differ : true ≡ false = sym known ∙ absent in cc)
+standing-if-known : {A : Type 0} (P : Platform) (dimm : ℕ) → has_module P dimm ≡ true → A ⊎ (has_module P dimm ≡ false) → A
+standing-if-known P dimm known (inl stand) = stand
+standing-if-known P dimm known (inr absent) = absurd (let differ : true ≡ false = sym known ∙ absent in cc)
 
 -- a module of the platform is kept
 found-in : (xs : List LoadedModule) (dimm : ℕ) → list_any (λ handle. handle == dimm) (map dimm_of xs) ≡ true → IsSome (find (is_of dimm) xs)
@@ -205,7 +205,7 @@ module _ {R : Type 0} (m : Ghosts R) (P : Platform) (sets : StoredSets) (in_P : 
       init-done P sets in_P dimm known (kept-kind P sets in_P dimm known has.uninit) slots has.slots (state P (labels_in now))
       (sym (state-there P now (has.regions ∙ in_P.regions) (labels_in now)) ∙ has.state_is ∙ after-is P sets in_P dimm known)
   init-step (Err (inits.Refused told)) has = λ either.
-      let stand : Stand m old sets = standing-if-known known either in
+      let stand : Stand m old sets = standing-if-known P dimm known either in
       subst (λ (s : StoredSets). Initialises P (labels_in sets) dimm (slots_at sets dimm) (Refused (init_refusal dimm told)) (state P (labels_in s))) (sym has.kept)
       (init-refused P sets in_P dimm known told (has.refused stand) has.not_uninit (slots_at sets dimm))
   init-step (Err (inits.Failed failed)) has = tt
