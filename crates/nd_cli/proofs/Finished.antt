@@ -1,5 +1,5 @@
 -- How lines on a session that has just started end, with the line of the fault that ended them.
-use Rattle.std.proofs.Common.{◌≡◌, ◌⊎◌, ℕ, ◌<◌, Bool, true, false, List, ◌++◌, length, take, Option, Result, Ok, Err, refl, sym, ap, ◌∙◌, subst, inl, inr, ⊎_elim, append_assoc}
+use Rattle.std.proofs.Common.{◌≡◌, ◌⊎◌, ℕ, ◌<◌, Bool, true, false, List, ◌++◌, length, take, Option, Result, Ok, Err, refl, sym, ap, ◌∙◌, subst, inl, inr, ⊎_elim}
 use Rattle.std.specs.FinMap.{get}
 use Rattle.rig_trait.specs.declared.shown.Shown.{Ghosts}
 use Rattle.rig_trait.specs.Areas.{Areas}
@@ -103,7 +103,7 @@ module _ {R : Type 0} (m : Ghosts R) (old start mid : R) (session after : Stored
   module _ (new : R) (fault : Fault) (k : ℕ) (progress : Progress) (status : ℕ) (stopped : IsStopped m known run k progress start mid) (behind : IsBehind known run k progress)
       (says : Says m mid new (fault_line fault) (fault_status fault) status) where
     -- the line of a fault is said behind the replies
-    ended : k < length lines → m.say_faults mid ≡ m.say_faults start → IsEnded m run fault old new status
+    abbrev ended : k < length lines → m.say_faults mid ≡ m.say_faults start → IsEnded m run fault old new status
     ended more say_faults = record {
       done = k;
       more = more;
@@ -112,10 +112,9 @@ module _ {R : Type 0} (m : Ghosts R) (old start mid : R) (session after : Stored
       cut = says.failed;
       status_is = says.status_is;
       whole = λ tells none. says.tells.whole (goes_on.tells ∙ read.goes_on.tells ∙ tells) none
-          ∙ ap (λ (said : List ℕ). said ++ fault_line fault) (said_behind progress stopped.said_is tells) ∙ append_assoc (m.said old) progress.said (fault_line fault);
+          ∙ ap (λ (said : List ℕ). said ++ fault_line fault) (said_behind progress stopped.said_is tells);
       front = λ tells. let front = says.tells.front (goes_on.tells ∙ read.goes_on.tells ∙ tells) in
-          (front.0, front.1 ∙ ap (λ (said : List ℕ). said ++ take front.0 (fault_line fault)) (said_behind progress stopped.said_is tells)
-          ∙ append_assoc (m.said old) progress.said (take front.0 (fault_line fault)));
+          (front.0, front.1 ∙ ap (λ (said : List ℕ). said ++ take front.0 (fault_line fault)) (said_behind progress stopped.said_is tells));
       say_faults = says.tells.says_only.say_faults ∙ ap (counted says.failed) (say_faults ∙ read.say_faults);
     }
 
@@ -129,8 +128,7 @@ module _ {R : Type 0} (m : Ghosts R) (old start mid : R) (session after : Stored
           behind = behind-known known told current run k progress behind;
           fault = fault;
           count = saying.count;
-          said_is = saying.said_is ∙ ap (λ (said : List ℕ). said ++ take saying.count (fault_line fault)) (said_behind progress stopped.said_is tells)
-              ∙ append_assoc (m.said old) progress.said (take saying.count (fault_line fault));
+          said_is = saying.said_is ∙ ap (λ (said : List ℕ). said ++ take saying.count (fault_line fault)) (said_behind progress stopped.said_is tells);
           areas_are = λ fair. rw saying.areas_are (⊎_elim inl (λ next. inr (next_table-known known told current run k progress from.areas next))
               (between.areas_are (IsFair-same c from (sym saying.areas_are) (sym saying.torn_is) fair)));
         }

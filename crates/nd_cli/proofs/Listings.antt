@@ -14,11 +14,13 @@ use Rattle.label_area.specs.declared.load.AreaFault.{AreaFault}
 use Rattle.label_area.specs.declared.load.AreaFault.TheVariants as load
 use Rattle.label_area.specs.Blocks.{current_block, current_in}
 use Rattle.label_area.specs.Faults.{is_load_failed}
-use Rattle.label_area.specs.LoadedAreas.{LoadedArea}
-use Rattle.label_area.specs.Loads.{IsFaultOf, Loads}
-use Rattle.label_area.specs.Modules.{area_kind}
+use Rattle.label_area.specs.LoadedAreas.{LoadedArea, block_of}
+use Rattle.label_area.specs.Loads.{IsFaultOf, IsShown, Loads}
+use Rattle.label_area.specs.Modules.{area_kind, module_at}
+use Rattle.label_listing.specs.Listing.{listing, loaded_listing}
+use Rattle.module_labels.specs.Labels.{Module}
 use Rattle.label_area.proofs.Shown.{ready_is}
-use Rattle.nd_cli.specs.Labels.{IsAnswer, ListsLabels, Refuses, answer_of, is_failed, labels_answer, listing_answer, not_ready, status_of, text_of}
+use Rattle.nd_cli.specs.Labels.{IsAnswer, Lists, ListsLabels, Refuses, answer_of, is_failed, labels_answer, listing_answer, not_ready, status_of, text_of}
 use Rattle.nd_cli.specs.Saying.{Says}
 
 -- an area that is not Ready has no current block
@@ -38,6 +40,12 @@ current_block-none (Some bytes) other = by_layout (geometry_of (length bytes) 25
 refused_is : (dimm : ℕ) (areas : Areas) (kind : AreaKind) → area_kind (get areas dimm) ≡ kind → kind ≢ Ready → Refuses (not_ready dimm kind) ≡ labels_answer dimm areas
 refused_is dimm areas kind is other =
     sym (ap (listing_answer dimm areas) (current_block-none (get areas dimm) (λ ready. other (sym is ∙ ready))) ∙ ap (λ k. Refuses (not_ready dimm k)) is)
+
+listed_is : (dimm : ℕ) (areas : Areas) (area : LoadedArea) → area.dimm ≡ dimm → IsShown area areas → Lists (loaded_listing area) ≡ labels_answer dimm areas
+listed_is dimm areas area is shown =
+    let current : current_block (get areas dimm) ≡ Some (block_of area) =
+        ap (λ (d : ℕ). current_block (get areas d)) (sym is) ∙ ap current_block shown.is_area ∙ shown.current_is in
+    sym (ap (listing_answer dimm areas) current ∙ ap (λ (m : Module). Lists (listing (block_of area) m)) (ap (module_at areas) (sym is) ∙ shown.module_is))
 
 unlisted_is : (dimm : ℕ) (areas : Areas) (fault : AreaFault) → IsFaultOf dimm areas fault → IsAnswer dimm areas (answer_of dimm fault)
 unlisted_is dimm areas load.Missing is = refused_is dimm areas Missing is.kind_is (λ same. cc)
@@ -65,5 +73,17 @@ module _ {R : Type 0} (m : Ghosts R) (dimm : ℕ) (old read : R) where
     answer = answer_of dimm fault;
     is_answer = λ told. unlisted_is dimm (m.areas old) fault (loads told);
     faults = failed_is fault fails;
+    says = says;
+  }
+
+  -- its labels are listed
+  pub listed : (new : R) (status : ℕ) (area : LoadedArea) → area.dimm ≡ dimm → Reads m old read → (IsTold m old → IsShown area (m.areas old)) → FailsAt dimm m old read false
+      → Says m read new (loaded_listing area) 0 status → ListsLabels m dimm old new status
+  listed new status area is reads loads fails says = record {
+    read = read;
+    reads = reads;
+    answer = Lists (loaded_listing area);
+    is_answer = λ told. listed_is dimm (m.areas old) area is (loads told);
+    faults = fails;
     says = says;
   }

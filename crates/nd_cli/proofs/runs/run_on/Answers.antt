@@ -11,11 +11,9 @@ use Rattle.nd_cli.specs.Texts.{fault_line}
 use Rattle.nd_cli.proofs.Finished.{are_run}
 use Rattle.nd_cli.proofs.runs.run_on.Goals as goal
 
-pub run_lines-requires : goal.run_lines-requires
-run_lines-requires g c = record {
-  unspent = c.in-Ok.ensures.opened.1;
-  sized = λ told k d lt. stands-sized (g.R.Shown.areas c.start.new.rig) _ ((c.in-Ok.ensures.current (c.start.ensures.reads_only.goes_on.tells ∙ told)).stands k d lt);
-}
+pub run_lines-outcome-requires-clause-sized : goal.run_lines-outcome-requires-clause-sized
+run_lines-outcome-requires-clause-sized g c told k d lt =
+    stands-sized (g.R.Shown.areas c.start.new.rig) _ ((c.in-Ok.ensures.current (sym c.start.ensures.reads_only.goes_on.tells ∙ told)).stands k d lt)
 
 pub returns-in-Err-clause-ends : goal.returns-in-Err-clause-ends
 returns-in-Err-clause-ends g c = not_started (record {
@@ -31,9 +29,9 @@ pub returns-clause-ends : goal.returns-clause-ends
 returns-clause-ends g c =
     let session = c.in-Ok.session in
     let lines : List (List ℕ) = map (λ line. line.now) c.args.lines.now in
-    let does = c.run_lines.ensures in
+    let does = c.run_lines-outcome.ensures in
     let status = c.say_end.result in
     subst (λ (platform : Platform). EndsOn g.R.Shown c.args.seed platform lines c.args.rig.now c.say_end.new.rig status) c.in-Ok.ensures.opened.0
     (ran (slots_of session) (state_of session)
-      (are_run g.R.Shown c.args.rig.now c.start.new.rig c.run_lines.new.rig session c.run_lines.new.session c.args.seed lines c.start.ensures.reads_only c.in-Ok.ensures.current c.in-Ok.ensures.cause
-      does.platform does.goes_on does.any_moment does.bytes_left c.say_end.new.rig c.run_lines.result status does.ends does.cause does.among does.bytes c.say_end.ensures.ends))
+      (are_run g.R.Shown c.args.rig.now c.start.new.rig c.run_lines-outcome.new.rig session c.run_lines-outcome.new.session c.args.seed lines c.start.ensures.reads_only c.in-Ok.ensures.current c.in-Ok.ensures.cause
+      does.platform does.goes_on does.any_moment does.bytes_left c.say_end.new.rig c.run_lines-outcome.result status does.ends does.cause does.among does.bytes c.say_end.ensures.ends))
