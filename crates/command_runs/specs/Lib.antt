@@ -6,3 +6,4 @@ pub mod Areas
 pub mod Faults
 pub mod Ends
 pub mod Replies
+pub mod Turns

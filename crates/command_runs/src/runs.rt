@@ -12,6 +12,7 @@ ghost use Rattle.command_runs.specs.Faults.{HasCause, IsAmong, fails_at, is_area
 ghost use Rattle.command_runs.specs.Stops.{IsLeft};
 
 use crate::faults::LineFault;
+use crate::turns::turn;
 use rig_trait::Rig;
 use sessions::Session;
 use std::alloc::Global;
@@ -62,8 +63,12 @@ pub fn run_lines<R: Rig>(
     ensures among { IsAmong (has_module session.old.platform) result }
     ensures goes_on { GoesOn R.Shown rig.old rig.new }
 {
-    if lines.is_empty() {
-        return Ok(false);
+    let mut refused = false;
+    for (index, line) in lines.iter().enumerate() {
+        match turn(alloc, rig, session, line, seed, index as u64 + 1) {
+            Ok(is_refused) => refused = refused || is_refused,
+            Err(fault) => return Err(fault),
+        }
     }
-    Err(LineFault::Memory)
+    Ok(refused)
 }

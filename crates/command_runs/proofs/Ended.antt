@@ -1,0 +1,101 @@
+-- A run ends.
+use Rattle.std.proofs.Common.{◌≡◌, inl, ℕ, ◌+◌, Bool, true, List, ◌++◌, Some, Result, Ok, Err, length, take, refl, sym, ap, ◌∙◌, subst, append_assoc}
+use Rattle.std.specs.Prelude.{slice_get}
+use Rattle.std.proofs.lemmas.Option.{slice_get_within}
+use Rattle.rig_trait.specs.declared.shown.Shown.{Ghosts}
+use Rattle.rig_trait.specs.Faults.{counted}
+use Rattle.rig_trait.specs.Frames.{Reads}
+use Rattle.rig_trait.specs.Records.{CrashRecord}
+use Rattle.cmd_words.specs.Lines.{command_in}
+use Rattle.label_table.specs.Tables.{State}
+use Rattle.region_map.specs.declared.platform.Platform.{Platform}
+use Rattle.sessions.specs.Commands.{has_module}
+use Rattle.sessions.specs.Sessions.{IsCurrent, StoredSession, state_of}
+use Rattle.command_runs.specs.declared.faults.LineFault.{LineFault}
+use Rattle.command_runs.specs.declared.faults.LineFault.TheVariants.{Area, Memory, Say}
+use Rattle.command_runs.specs.Ends.{Ends, IsEndedBy, IsStopped, IsThrough, run_of}
+use Rattle.command_runs.specs.Faults.{HasAreaFaults, HasCause, IsAmong, is_say}
+use Rattle.command_runs.specs.Runs.{IsBehind, is_change_if, text_if}
+use Rattle.command_runs.specs.Stops.{HasTable}
+use Rattle.command_runs.specs.Turns.{Turns}
+use Rattle.command_runs.proofs.Going.{IsGoing, both-false, left-between, next-does, with_reply}
+use Rattle.command_runs.proofs.Records.{read-only, still-current, table-is, writes-nothing}
+
+module _ {R : Type 0} (m : Ghosts R) (start : StoredSession) (seed : ℕ) (lines : List (List ℕ)) (old : R) (k : ℕ) (session : StoredSession) (mid : R) (refused : Bool) (going : IsGoing m start seed lines old k session mid refused) where
+  -- behind the last line
+  pub finished : k ≡ length lines → Ends m (IsCurrent m old start) (run_of start seed lines) old mid session (Ok refused)
+  finished all = record {
+    progress = going.progress;
+    behind = subst (λ (n : ℕ). IsBehind (IsCurrent m old start) (run_of start seed lines) n going.progress) all going.behind;
+    refused_is = going.refused_is;
+    through = going.through;
+    kept = going.kept;
+  }
+
+  module _ (line : List ℕ) (is_next : slice_get lines k ≡ Some line) (now : StoredSession) (new : R) where
+    -- want of memory
+    unread-through : now ≡ session → Reads m mid new → IsThrough m (IsCurrent m old start) going.progress (m.said old) new now
+    unread-through same reads = record {
+      state_is = ap state_of same ∙ going.through.state_is;
+      said_is = λ current. reads.said ∙ going.through.said_is current;
+      current = λ current. subst (IsCurrent m new) (sym same) (still-current session reads.goes_on.tells reads.areas (going.through.current current));
+    }
+
+    unread-stopped : Reads m mid new → IsStopped m (IsCurrent m old start) (run_of start seed lines) k going.progress old new
+    unread-stopped reads = record {
+      said_is = λ current. reads.said ∙ going.through.said_is current;
+      left = λ current c left.
+          let was = m.now_is mid c (reads.time.left_is c left) in
+          record {
+            said_is = was.1 ∙ going.through.said_is current;
+            areas_are = λ fair. inl (subst (λ (platform : Platform). HasTable platform going.progress.state c.areas) going.platform
+                (table-is {m = m} mid session c.areas (going.through.current current) was.0 ∙ ap (λ (s : State). s.table) going.through.state_is));
+          };
+    }
+
+    ended-by : (fault : LineFault) → Turns m session seed (k + 1) (command_in line) mid now new (Err fault) → IsEndedBy m (IsCurrent m old start) (run_of start seed lines) k going.progress old new now fault
+    ended-by (Area dimm) turn = record {
+      said_is = λ current. turn.turns_to.said_is ∙ going.through.said_is current;
+      left = λ current c left. left-between m start seed lines old k session mid refused going line is_next current c (turn.turns_to.left (going.through.current current) c left);
+    }
+    ended-by Memory turn = record {
+      stopped = unread-stopped turn.turns_to.reads_only;
+      through = unread-through turn.turns_to.kept turn.turns_to.reads_only;
+      kept = λ none. writes-nothing (going.kept none) (read-only turn.turns_to.reads_only);
+    }
+    ended-by Say turn =
+        let cut = turn.turns_to in
+        let reply = cut.reply in
+        record {
+          next = with_reply going.progress reply (state_of now);
+          does = next-does m start seed lines old k session mid refused going line is_next reply (state_of now) cut.turned.does;
+          text = text_if reply;
+          text_is = refl;
+          said_is = λ current.
+              let front = cut.turned.said_is (going.goes_on.tells ∙ current.told) in
+              (front.0, front.1 ∙ ap (λ (said : List ℕ). said ++ take front.0 (text_if reply)) (going.through.said_is current) ∙ append_assoc (m.said old) going.progress.said (take front.0 (text_if reply)));
+          state_is = refl;
+          current = λ current. cut.turned.current (going.through.current current);
+          kept = λ none. let each = both-false going.progress.changed (is_change_if reply) none in writes-nothing (going.kept each.0) (cut.turned.kept each.1);
+        }
+
+    pub cut-short : (fault : LineFault) → Turns m session seed (k + 1) (command_in line) mid now new (Err fault) → Ends m (IsCurrent m old start) (run_of start seed lines) old new now (Err fault)
+    cut-short fault turn = record {
+      done = k;
+      more = slice_get_within lines k line is_next;
+      progress = going.progress;
+      behind = going.behind;
+      ended = ended-by fault turn;
+    }
+
+    -- the first fault
+    pub caused : (fault : LineFault) → Turns m session seed (k + 1) (command_in line) mid now new (Err fault) → HasCause {T = Bool} m old new (Err fault)
+    caused fault turn = record { areas = by fault turn.cause.areas; says = turn.cause.says ∙ ap (counted (is_say {T = Bool} (Err fault))) going.say_faults }
+      where
+        by : (fault : LineFault) → HasAreaFaults {T = Bool} m mid new (Err fault) → HasAreaFaults {T = Bool} m old new (Err fault)
+        by (Area dimm) is = record { faults = is.faults ∙ ap (counted true) going.faults.faults; failed_dimm = is.failed_dimm }
+        by Memory is = record { faults = is.faults ∙ going.faults.faults; failed_dimm = is.failed_dimm ∙ going.faults.failed_dimm }
+        by Say is = record { faults = is.faults ∙ going.faults.faults; failed_dimm = is.failed_dimm ∙ going.faults.failed_dimm }
+
+    pub among : (fault : LineFault) → Turns m session seed (k + 1) (command_in line) mid now new (Err fault) → IsAmong {T = Bool} (has_module start.platform) (Err fault)
+    among fault turn = subst (λ (platform : Platform). IsAmong {T = Bool} (has_module platform) (Err fault)) going.platform turn.among

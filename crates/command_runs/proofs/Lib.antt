@@ -1,0 +1,7 @@
+pub mod Commands
+pub mod Records
+pub mod Applied
+pub mod Said
+pub mod Kept
+pub mod Going
+pub mod Ended
