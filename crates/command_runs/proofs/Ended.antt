@@ -70,10 +70,11 @@ module _ {R : Type 0} (m : Ghosts R) (start : StoredSession) (seed : ℕ) (lines
           next = with_reply going.progress reply (state_of now);
           does = next-does m start seed lines old k session mid refused going line is_next reply (state_of now) cut.turned.does;
           text = text_if reply;
+          some = cut.some;
           text_is = refl;
           said_is = λ current.
               let front = cut.turned.said_is (going.goes_on.tells ∙ current.told) in
-              (front.0, front.1 ∙ ap (λ (said : List ℕ). said ++ take front.0 (text_if reply)) (going.through.said_is current) ∙ append_assoc (m.said old) going.progress.said (take front.0 (text_if reply)));
+              (front.0, front.1 ∙ ap (λ (said : List ℕ). said ++ take front.0 (text_if reply)) (going.through.said_is current));
           state_is = refl;
           current = λ current. cut.turned.current (going.through.current current);
           kept = λ none. let each = both-false going.progress.changed (is_change_if reply) none in writes-nothing (going.kept each.0) (cut.turned.kept each.1);

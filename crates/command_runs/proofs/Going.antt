@@ -167,7 +167,7 @@ module _ {R : Type 0} (m : Ghosts R) (start : StoredSession) (seed : ℕ) (lines
       left-saying current c left = by (ltb left.count (length (text_if left.reply))) refl
         where
           said_is : c.said ≡ m.said old ++ before.said ++ take left.count (text_if left.reply)
-          said_is = left.said_is ∙ ap (λ (said : List ℕ). said ++ take left.count (text_if left.reply)) (going.through.said_is current) ∙ append_assoc (m.said old) before.said (take left.count (text_if left.reply))
+          said_is = left.said_is ∙ ap (λ (said : List ℕ). said ++ take left.count (text_if left.reply)) (going.through.said_is current)
 
           table_is : HasTable start.platform left.after c.areas
           table_is = table-in-run left.after c.areas left.table_is
@@ -189,7 +189,8 @@ module _ {R : Type 0} (m : Ghosts R) (start : StoredSession) (seed : ℕ) (lines
             });
           }
           by false whole = between (suc k) (with_reply before left.reply left.after) (next-behind left.reply left.after left.does) c (record {
-            said_is = said_is ∙ ap (λ (text : List ℕ). m.said old ++ before.said ++ text) (take_all left.count (text_if left.reply) (ltb-false left.count (length (text_if left.reply)) whole));
+            said_is = said_is ∙ ap (λ (text : List ℕ). m.said old ++ before.said ++ text) (take_all left.count (text_if left.reply) (ltb-false left.count (length (text_if left.reply)) whole))
+                ∙ append_assoc (m.said old) before.said (text_if left.reply);
             areas_are = λ fair. inl table_is;
           })
 

@@ -163,7 +163,7 @@ fn only_label<'a>(modules: &'a [ModuleLabels], handle: u32, uuid: &[u8; 16]) -> 
 }
 
 /// All modules of the region are Ready.
-fn all_ready(modules: &[ModuleLabels], region: &Region) -> bool
+pub fn all_ready(modules: &[ModuleLabels], region: &Region) -> bool
     ensures { result ≡ all_ready region.now (labels_in modules.now) }
 {
     region

@@ -30,7 +30,7 @@ use Rattle.table_steps.specs.Release.{MayBeReleased, holds_of, is_fixed, lacks_a
 use Rattle.table_steps.proofs.Lists.{AreNone, find-none, first-none, not-false, or-false, unapplied}
 
 -- The areas of a region are Ready where none is the first that is not.
-areas-ready : (L : Labels) (ms : List Member) → first_not_ready (λ m. (L m).kind) ms ≡ None → list_all (λ (x : Member). is_ready (L x.handle).kind) ms ≡ true
+pub areas-ready : (L : Labels) (ms : List Member) → first_not_ready (λ m. (L m).kind) ms ≡ None → list_all (λ (x : Member). is_ready (L x.handle).kind) ms ≡ true
 areas-ready L [] none = refl
 areas-ready L (x ∷ xs) none = by (is_ready (L x.handle).kind) none (λ later. areas-ready L xs later)
   where

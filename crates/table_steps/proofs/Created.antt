@@ -1,5 +1,5 @@
 -- What an accepted create does.
-use Rattle.std.proofs.Common.{◌≡◌, ◌≢◌, inl, ℕ, ◌+◌, ◌-◌, ◌*◌, ◌%◌, ◌≤◌, ◌<◌, Bool, true, false, not, ◌&&◌, cond, List, Some, length, refl, ap, ◌∙◌, arith}
+use Rattle.std.proofs.Common.{◌≡◌, ◌≢◌, inl, inr, ℕ, ◌+◌, ◌-◌, ◌*◌, ◌%◌, ◌≤◌, ◌<◌, Bool, true, false, not, ◌&&◌, cond, List, Some, length, refl, ap, subst, ◌∙◌, arith}
 use Rattle.std.specs.Prelude.{◌==◌, nat_lt}
 use Rattle.std.specs.List.{Contains}
 use Rattle.std.proofs.lemmas.Bool.{and_parts}
@@ -12,14 +12,19 @@ use Rattle.region_map.specs.declared.platform.Region.{Region}
 use Rattle.label_table.specs.Belonging.{IsDisjoint}
 use Rattle.label_table.specs.Division.{IsOpen, alignment, is_common_free, is_held_at, namespaces_over, part_size}
 use Rattle.label_table.specs.Fates.{spare}
+use Rattle.label_table.specs.Namespaces.{insert_space, namespaces, without_uuid}
 use Rattle.label_table.specs.Spaces.{Space}
 use Rattle.label_table.specs.Statuses.{RegionReady, status}
 use Rattle.label_table.specs.Tables.{ChangesAt, State, changed_at, is_member, pending_at, state, table, with_namespace, with_space}
 use Rattle.label_table.proofs.ListTests.{eq_same, eq_true, find-some, list_any-at}
-use Rattle.label_table.proofs.StatusLaws.{ready-with, status-elsewhere}
+use Rattle.label_table.proofs.Listed.{namespaces-with, without_uuid-cases}
+use Rattle.label_table.proofs.Order.{insert_space-cases}
+use Rattle.label_table.proofs.StatusLaws.{ready-with, space-new, space-others, status-elsewhere}
 use Rattle.table_steps.specs.declared.change.NewNamespace.{NewNamespace}
 use Rattle.table_steps.specs.Create.{Accepts, made, part_length}
+use Rattle.table_steps.specs.Namespaces.{HasDistinctNames}
 use Rattle.table_steps.proofs.Accepted.{IsUnrefused, unrefused}
+use Rattle.table_steps.proofs.Names.{IsNewOrOld, clear-unless, names-distinct}
 use Rattle.table_steps.proofs.Marks.{marks-cleared, marks-elsewhere}
 
 module _ (P : Platform) (L : Labels) (free : List Extent) (a : NewNamespace) (reply : Reply) (after : State) (c : Accepts P L free a reply after) where
@@ -93,3 +98,16 @@ module _ (P : Platform) (L : Labels) (free : List Extent) (a : NewNamespace) (re
 
   pub elsewhere : IsDisjoint P → (M : Labels) → state P M ≡ after → (q : Region) → Contains P.regions q → q ≢ r → status M q ≡ status L q
   elsewhere disjoint M stands q in_q other = status-elsewhere P r a.uuid (Some new) L M (changes disjoint M stands) q in_q other
+
+  -- Names that were distinct are so.
+  pub distinct : IsDisjoint P → (M : Labels) → state P M ≡ after → HasDistinctNames L r → HasDistinctNames M r
+  distinct disjoint M stands before = names-distinct L M r new one-of (clear-unless L r new u.name) before
+    where
+      listed : namespaces M r ≡ insert_space new (without_uuid a.uuid (namespaces L r))
+      listed = namespaces-with L M r new (space-new P r a.uuid (Some new) L M (changes disjoint M stands)) (space-others P r a.uuid (Some new) L M (changes disjoint M stands))
+
+      one-of : (t : Space) → Contains (namespaces M r) t → IsNewOrOld L r new t
+      one-of t t_in = elim (insert_space-cases new (without_uuid a.uuid (namespaces L r)) t (subst (λ xs. Contains xs t) listed t_in)) [
+        | inl is ↦ inl is
+        | inr old ↦ inr (without_uuid-cases a.uuid (namespaces L r) t old)
+      ]

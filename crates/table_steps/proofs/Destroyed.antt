@@ -1,5 +1,5 @@
 -- What an accepted destroy does.
-use Rattle.std.proofs.Common.{◌≡◌, ◌≢◌, ◌⊎◌, inl, inr, ℕ, ◌+◌, ◌≤◌, ◌<◌, true, false, not, ◌&&◌, cond, List, [], ◌∷◌, Some, None, refl, ap, ◌∙◌, arith}
+use Rattle.std.proofs.Common.{◌≡◌, ◌≢◌, ◌⊎◌, inl, inr, ℕ, ◌+◌, ◌≤◌, ◌<◌, true, false, not, ◌&&◌, cond, List, [], ◌∷◌, Some, None, refl, ap, subst, ◌∙◌, arith}
 use Rattle.std.specs.Prelude.{◌==◌, count_by, nat_lt}
 use Rattle.std.specs.List.{Contains, list_any}
 use Rattle.std.specs.Ordering.{is_lt}
@@ -26,6 +26,7 @@ use Rattle.label_table.proofs.ListTests.{Contains-here, Contains-there, both, eq
 use Rattle.label_table.proofs.Order.{before-total}
 use Rattle.label_table.proofs.StatusLaws.{ready-parts, ready-without, space-new, space-others, status-elsewhere}
 use Rattle.table_steps.specs.Destroy.{IsDestroyed, with_destroyed}
+use Rattle.table_steps.specs.Namespaces.{HasDistinctNames}
 use Rattle.table_steps.proofs.AcceptedChanges.{own-listed, own-stands}
 use Rattle.table_steps.proofs.Marks.{marked-is, marks-cleared, marks-elsewhere}
 
@@ -157,3 +158,10 @@ module _ (P : Platform) (L : Labels) (index : ℕ) (key : NameKey) (reply : Repl
             meets too (inr after) =
                 let there = has_offset-is o t too in
                 meet-overlaps t own (calm t own old.0 own_in (before-total own t (uuid_other own.uuid t.uuid old.1) after)) (record { starts = omega (arith, there.0, at.1); ends = omega (arith, there.1, at.0) })
+
+    -- Names that were distinct are so.
+    pub distinct : HasDistinctNames L r → HasDistinctNames M r
+    distinct before s t s_in t_in some same = before s t (was s s_in) (was t t_in) some same
+      where
+        was : (y : Space) → Contains (namespaces M r) y → Contains (namespaces L r) y
+        was y y_in = (without_uuid-cases own.uuid (namespaces L r) y (subst (λ xs. Contains xs y) listed y_in)).0

@@ -1,6 +1,6 @@
 -- Platforms and labels by which the steps are tried out.
 use Rattle.std.proofs.Common.{ℕ, cond, List, [], ◌∷◌, Option, Some, None}
-use Rattle.std.specs.Prelude.{◌==◌, replicate}
+use Rattle.std.specs.Prelude.{◌==◌, replicate, slice_get}
 use Rattle.view_types.specs.Guids.{persistent_memory}
 use Rattle.label_codec.specs.declared.label.Label.{Label}
 use Rattle.module_labels.specs.declared.kind.AreaKind.{AreaKind}
@@ -74,6 +74,9 @@ first_uuid = uuid_with 0x13
 abbrev pub second_uuid : List ℕ
 second_uuid = uuid_with 0x14
 
+abbrev pub third_uuid : List ℕ
+third_uuid = uuid_with 0x15
+
 abbrev pub no_name : List ℕ
 no_name = replicate 64 0
 
@@ -116,6 +119,10 @@ no_label slot = None
 abbrev pub one_label : Label → ℕ → Option Label
 one_label only slot = cond (slot == 0) (Some only) None
 
+-- labels in the first slots
+abbrev pub some_labels : List Label → ℕ → Option Label
+some_labels labels slot = slice_get labels slot
+
 abbrev pub ready_area : ℕ → (ℕ → Option Label) → Module
 ready_area slots at = record { kind = Ready; slots = slots; at = at }
 
@@ -133,3 +140,11 @@ empty slots = two_modules (ready_area slots no_label) (ready_area slots no_label
 -- one namespace at offset 0: its name, its flags, and its length in each module
 abbrev pub with_one : ℕ → List ℕ → ℕ → ℕ → Labels
 with_one slots name flags length = two_modules (ready_area slots (one_label (label first_uuid name flags 0 0 length))) (ready_area slots (one_label (label first_uuid name flags 1 0 length)))
+
+-- namespaces in both modules, each with a uuid, a name, flags and an offset, and with 2 MiB in each module
+abbrev pub spaces_at : ℕ → List (List ℕ × List ℕ × ℕ × ℕ) → List Label
+spaces_at position [] = []
+spaces_at position (each ∷ others) = label each.0 each.1 each.2 position each.3 2097152 ∷ spaces_at position others
+
+abbrev pub with_spaces : ℕ → List (List ℕ × List ℕ × ℕ × ℕ) → Labels
+with_spaces slots spaces = two_modules (ready_area slots (some_labels (spaces_at 0 spaces))) (ready_area slots (some_labels (spaces_at 1 spaces)))

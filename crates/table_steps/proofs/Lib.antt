@@ -2,6 +2,7 @@ pub mod Lists
 pub mod Sizes
 pub mod Accepted
 pub mod Marks
+pub mod Names
 pub mod Created
 pub mod Uuids
 pub mod SameRegions
@@ -13,6 +14,7 @@ pub mod KnownRegions
 pub mod Fresh
 mod Examples
 mod Rows
+mod ChangeRows
 pub mod FreeLists
 pub mod AcceptedChanges
 pub mod AcceptedReleases
@@ -23,3 +25,4 @@ pub mod Destroyed
 pub mod Renamed
 pub mod Released
 pub mod Replies
+pub mod Unready

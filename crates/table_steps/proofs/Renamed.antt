@@ -1,5 +1,5 @@
 -- What an accepted rename does.
-use Rattle.std.proofs.Common.{◌≡◌, ◌≢◌, ◌⊎◌, inl, inr, ℕ, ◌+◌, Bool, true, false, not, ◌&&◌, List, [], ◌∷◌, Some, None, find, length, refl, sym, ap, subst, ◌∙◌}
+use Rattle.std.proofs.Common.{◌≡◌, ◌≢◌, inl, inr, ℕ, ◌+◌, Bool, true, false, not, ◌&&◌, List, [], ◌∷◌, Some, None, find, refl, sym, ap, subst, ◌∙◌}
 use Rattle.std.specs.Prelude.{◌==◌, if◌then◌else◌, nat_lt, option_map}
 use Rattle.std.specs.List.{Contains, list_any}
 use Rattle.std.specs.Str.{bytes_eq}
@@ -7,7 +7,6 @@ use Rattle.view_types.specs.declared.refusal.Refusal.TheVariants.{NameInUse}
 use Rattle.view_types.specs.declared.reply.Reply.{Reply}
 use Rattle.cmd_words.specs.declared.name_keys.NameKey.{NameKey}
 use Rattle.cmd_words.specs.declared.name_keys.NameKey.TheVariants.{Name}
-use Rattle.label_codec.specs.Names.{name_before_zero}
 use Rattle.module_labels.specs.Labels.{Labels}
 use Rattle.region_map.specs.declared.platform.Member.{Member}
 use Rattle.region_map.specs.declared.platform.Platform.{Platform}
@@ -31,6 +30,7 @@ use Rattle.table_steps.proofs.AcceptedChanges.{IsFreeName, IsUnrefusedRename, ow
 use Rattle.table_steps.proofs.Destroyed.{none-over}
 use Rattle.table_steps.proofs.Lists.{find-never}
 use Rattle.table_steps.proofs.Marks.{marked-is, marks-cleared, marks-elsewhere}
+use Rattle.table_steps.proofs.Names.{IsClear, IsNewOrOld, names-distinct}
 
 -- The state behind a rename, by what it shows.
 pub renamed-is : (r : Region) (name : List ℕ) (s : Space) (before after : State) → after.table ≡ (with_changed_namespace r (renamed name s) false before).table
@@ -52,10 +52,6 @@ own-name L r name s only = ap (name_taken_beside L r name) only ∙ by (is_unnam
     by : (b : Bool) → (if b then None else option_map (λ (t : Space). NameInUse t.uuid) (find (is_other_named name s.uuid) (namespaces L r))) ≡ None
     by true = refl
     by false = ap (option_map (λ (t : Space). NameInUse t.uuid)) (find-never (is_other_named name s.uuid) (namespaces L r) alone)
-
--- names are the same in either order
-named-back : (a b : List ℕ) → bytes_eq (name_before_zero a) (name_before_zero b) ≡ true → name_before_zero b ≡ name_before_zero a
-named-back a b e = sym (uuid_is (name_before_zero a) (name_before_zero b) e)
 
 module _ (P : Platform) (L : Labels) (index : ℕ) (key : NameKey) (name : List ℕ) (reply : Reply) (after : State) (d : IsRenamed P L index key name reply after) where
   abbrev r : Region
@@ -123,7 +119,7 @@ module _ (P : Platform) (L : Labels) (index : ℕ) (key : NameKey) (name : List 
     elsewhere q in_q other = status-elsewhere P r own.uuid (Some new) L M changes q in_q other
 
     -- a namespace behind it is the one, or was there before
-    one-of : (t : Space) → Contains (namespaces M r) t → (t ≡ new) ⊎ (Contains (namespaces L r) t × (bytes_eq own.uuid t.uuid ≡ false))
+    one-of : (t : Space) → Contains (namespaces M r) t → IsNewOrOld L r new t
     one-of t t_in = elim (insert_space-cases new (without_uuid own.uuid (namespaces L r)) t (subst (λ xs. Contains xs t) listed t_in)) [
       | inl is ↦ inl is
       | inr old ↦ inr (without_uuid-cases own.uuid (namespaces L r) t old)
@@ -133,7 +129,7 @@ module _ (P : Platform) (L : Labels) (index : ℕ) (key : NameKey) (name : List 
     over-none : (o : ℕ) → namespaces_over L r o ≡ 0 → namespaces_over M r o ≡ 0
     over-none o none = none-over o (namespaces M r) (λ t t_in. by t (one-of t t_in))
       where
-        by : (t : Space) → (t ≡ new) ⊎ (Contains (namespaces L r) t × (bytes_eq own.uuid t.uuid ≡ false)) → has_offset o t ≡ false
+        by : (t : Space) → IsNewOrOld L r new t → has_offset o t ≡ false
         by t (inl is) = ap (λ (y : Space). has_offset o y) is ∙ count_by-zero (has_offset o) (namespaces L r) none own own_in
         by t (inr old) = count_by-zero (has_offset o) (namespaces L r) none t old.0
 
@@ -158,7 +154,7 @@ module _ (P : Platform) (L : Labels) (index : ℕ) (key : NameKey) (name : List 
 
     -- Names that were distinct are so.
     pub distinct : first_of (rename_refusals P L index key name) ≡ None → HasDistinctNames L r → HasDistinctNames M r
-    distinct none before s t s_in t_in some same = by (one-of s s_in) (one-of t t_in)
+    distinct none before = names-distinct L M r new one-of clear before
       where
         u : IsUnrefusedRename P L key name r
         u = unrefused-rename P L index key name r d.found none
@@ -167,7 +163,7 @@ module _ (P : Platform) (L : Labels) (index : ℕ) (key : NameKey) (name : List 
         is_own = own-alone L r key own d.only u.change.own (own-listed L r key u.change.own u.change.one.only) (own-fits L r key u.change.own u.change.one.only)
 
         -- no other namespace has the new name
-        clear : (y : Space) → Contains (namespaces L r) y → bytes_eq own.uuid y.uuid ≡ false → is_unnamed name ≡ false → is_named name y ≡ true → ⊥
+        clear : IsClear L r new
         clear y y_in differ some taken = by_name u.free_name
           where
             by_name : IsFreeName L r name u.change.own → ⊥
@@ -175,14 +171,3 @@ module _ (P : Platform) (L : Labels) (index : ℕ) (key : NameKey) (name : List 
             by_name (inr free) =
                 let e : y.uuid ≡ own.uuid = free y y_in taken ∙ ap (λ (z : Space). z.uuid) is_own in
                 never (bytes_eq own.uuid y.uuid) (ap (bytes_eq own.uuid) e ∙ uuid_same own.uuid) differ
-
-        by : (s ≡ new) ⊎ (Contains (namespaces L r) s × (bytes_eq own.uuid s.uuid ≡ false)) → (t ≡ new) ⊎ (Contains (namespaces L r) t × (bytes_eq own.uuid t.uuid ≡ false)) → s ≡ t
-        by (inl s_is) (inl t_is) = s_is ∙ sym t_is
-        by (inl s_is) (inr t_old) =
-            let names : s.name ≡ name = ap (λ (y : Space). y.name) s_is in
-            absurd (clear t t_old.0 t_old.1 (sym (ap is_unnamed names) ∙ some) (sym (ap (λ n. is_named n t) names) ∙ same))
-        by (inr s_old) (inl t_is) =
-            let names : t.name ≡ name = ap (λ (y : Space). y.name) t_is in
-            let back : name_before_zero name ≡ name_before_zero s.name = sym (ap name_before_zero names) ∙ named-back s.name t.name same in
-            absurd (clear s s_old.0 s_old.1 (ap (λ n. length n == 0) back ∙ some) (ap (λ n. bytes_eq n (name_before_zero s.name)) back ∙ uuid_same (name_before_zero s.name)))
-        by (inr s_old) (inr t_old) = before s t s_old.0 t_old.0 some same

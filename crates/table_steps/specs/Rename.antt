@@ -31,7 +31,8 @@ abbrev pub name_taken_beside : Labels → Region → List ℕ → List Space →
 name_taken_beside labels region name [] = None
 name_taken_beside labels region name (own ∷ spaces) =
     if is_unnamed name then None
-    else option_map (λ (space : Space). NameInUse space.uuid) (find (is_other_named name own.uuid) (namespaces labels region))
+    else option_map (λ (space : Space). NameInUse space.uuid)
+    (find (is_other_named name own.uuid) (namespaces labels region))
 
 abbrev pub name_taken_in : Labels → NameKey → List ℕ → Region → Option Refusal
 name_taken_in labels key name region = name_taken_beside labels region name (fitting labels region key)

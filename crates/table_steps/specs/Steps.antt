@@ -29,7 +29,8 @@ Does platform slots labels (Create region size name abstraction sector uuid) own
       uuid = unwrap_or uuid own;
     }) reply after
 Does platform slots labels (Destroy region key) own reply after = Destroys platform labels region key reply after
-Does platform slots labels (Rename region key name) own reply after = Renames platform labels region key name reply after
+Does platform slots labels (Rename region key name) own reply after =
+    Renames platform labels region key name reply after
 Does platform slots labels (ReleaseHeld dimm uuid) own reply after = Releases platform labels dimm uuid reply after
 
 -- The step of a command from a state, which is that of some labels. Which labels does not matter: the laws say so.

@@ -94,6 +94,12 @@ pub fn range_laws()
         → offset < accepts.done.offset + part_length asked accepts.done.region
         → is_common_free platform labels accepts.done.region offset ≡ true }
 
+    // Names that are distinct stay so.
+    ensures distinct { (platform : Platform) (labels now : Labels) (free : List Extent) (asked : NewNamespace)
+        (reply : Reply) (after : State) → (accepts : Accepts platform labels free asked reply after)
+        → IsDisjoint platform → state platform now ≡ after
+        → HasDistinctNames labels accepts.done.region → HasDistinctNames now accepts.done.region }
+
     // The region stays Ready, and the others have the status that they had.
     ensures ready { (platform : Platform) (labels now : Labels) (free : List Extent) (asked : NewNamespace)
         (reply : Reply) (after : State) → (accepts : Accepts platform labels free asked reply after)
@@ -204,6 +210,11 @@ pub fn freed_laws()
         → IsDisjoint platform → state platform now ≡ after
         → namespaces now done.region ≡ without_uuid done.space.uuid (namespaces labels done.region) }
 
+    ensures distinct { (platform : Platform) (labels now : Labels) (index : ℕ) (key : NameKey) (reply : Reply)
+        (after : State) → (done : IsDestroyed platform labels index key reply after)
+        → IsDisjoint platform → state platform now ≡ after
+        → HasDistinctNames labels done.region → HasDistinctNames now done.region }
+
     // Those that no label holds are common free, as are those that were.
     ensures freed { (platform : Platform) (labels now : Labels) (index : ℕ) (key : NameKey) (reply : Reply)
         (after : State) → (done : IsDestroyed platform labels index key reply after)
@@ -266,6 +277,11 @@ pub fn name_laws()
     // The name of the one namespace that has it is free for it.
     ensures own_name { (labels : Labels) (region : Region) (name : List ℕ) (own : Space)
         → fitting labels region (Name name) ≡ own ∷ [] → name_taken_in labels (Name name) name region ≡ None }
+
+    // So is the name of each, where names are distinct.
+    ensures kept_name { (labels : Labels) (region : Region) (key : NameKey) (own : Space)
+        → fitting labels region key ≡ own ∷ [] → HasDistinctNames labels region
+        → name_taken_in labels key own.name region ≡ None }
 
     // Names that are distinct stay so.
     ensures distinct { (platform : Platform) (labels now : Labels) (index : ℕ) (key : NameKey) (name : List ℕ)

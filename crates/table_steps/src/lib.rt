@@ -5,6 +5,7 @@
 mod change;
 mod laws;
 mod plain;
+mod releases;
 
 pub use change::{Change, NewNamespace};
 pub use laws::{
@@ -12,6 +13,7 @@ pub use laws::{
     range_laws, release_laws, rename_laws, some_step_laws, step_laws, unrefused_laws,
 };
 pub use plain::{bad_size, initialise, no_slots, spare, uuid_in_use};
+pub use releases::{held_count, held_fixed, is_held, not_held, region_lacks_area, release_refusal};
 
 #[cfg(test)]
 mod tests;

@@ -36,7 +36,7 @@ pub fn initialise(platform: &Platform, modules: &[ModuleLabels], dimm: u32, slot
 }
 
 /// A module of the platform has the device handle.
-fn has_module(platform: &Platform, dimm: u32) -> bool
+pub fn has_module(platform: &Platform, dimm: u32) -> bool
     ensures { result ≡ list_any (λ handle. handle == dimm) platform.now.modules }
 {
     platform
@@ -55,14 +55,14 @@ fn not_ready(dimm: u32, state: AreaState) -> Reply
 }
 
 /// The module with a device handle.
-fn module_of(modules: &[ModuleLabels], handle: u32) -> Option<&ModuleLabels>
+pub fn module_of(modules: &[ModuleLabels], handle: u32) -> Option<&ModuleLabels>
     ensures { option_copied result ≡ find (λ area. area.handle == handle) modules.now }
 {
     modules.iter().find(|area| area.handle == handle)
 }
 
 /// What the area of the module with a device handle is.
-fn kind_of(modules: &[ModuleLabels], handle: u32) -> AreaKind
+pub fn kind_of(modules: &[ModuleLabels], handle: u32) -> AreaKind
     ensures { result ≡ (labels_in modules.now handle).kind }
 {
     match module_of(modules, handle) {

@@ -2,7 +2,7 @@ ghost use Rattle.std.specs.Prelude.{IfOk};
 ghost use Rattle.table_steps.specs.Plain.{HasFewModules};
 
 use super::*;
-use label_codec::{Label, UPDATING};
+use label_codec::{LOCAL, Label, READ_ONLY, UPDATING};
 use label_table::ModuleLabels;
 use module_labels::AreaKind;
 use region_map::{Member, Platform, Region};
@@ -173,5 +173,77 @@ fn refusals_of_a_create(rt: HostRuntime) -> Result<(), Fail> {
     ];
     assert_eq!(rt; no_slots(&platform, &left, 2, &region), None);
     assert_eq!(rt; uuid_in_use(&platform, &left, &UUID), None);
+    Ok(())
+}
+
+#[test]
+fn refusals_of_a_release(rt: HostRuntime) -> Result<(), Fail> {
+    let platform = platform(&rt)?;
+    // The label of a namespace that the other module has lost is held, and is released once.
+    let lost = [
+        module(&rt, 0x1, AreaKind::Ready, Some(label(0, 0)))?,
+        module(&rt, 0x101, AreaKind::Ready, None)?,
+    ];
+    assert_eq!(rt; release_refusal(&platform, &lost, 0x1, &UUID), None);
+    assert_eq!(rt; held_count(&platform, &lost, 0x1, &UUID), 1);
+    assert_eq!(rt; spare(&platform, &lost, 0x1), 1);
+    assert_eq!(rt;
+        release_refusal(&platform, &lost, 0x1, &OTHER),
+        Some(Refusal::NotHeld)
+    );
+    assert_eq!(rt;
+        not_held(&platform, &lost, 0x101, &UUID),
+        Some(Refusal::NotHeld)
+    );
+    assert_eq!(rt;
+        release_refusal(&platform, &lost, 0x2, &UUID),
+        Some(Refusal::UnknownDimm { dimm: 0x2 })
+    );
+    // It is kept while the area of the other module is missing, whose own labels are not known.
+    let missing = [
+        module(&rt, 0x1, AreaKind::Ready, Some(label(UPDATING, 0)))?,
+        module(&rt, 0x101, AreaKind::Missing, None)?,
+    ];
+    let not_ready = Some(Refusal::NotReady {
+        status: Status::Area {
+            dimm: 0x101,
+            state: AreaState::Missing,
+        },
+    });
+    assert_eq!(rt; held_count(&platform, &missing, 0x1, &UUID), 1);
+    assert_eq!(rt;
+        region_lacks_area(&platform, &missing, 0x1, &UUID),
+        not_ready
+    );
+    assert_eq!(rt; release_refusal(&platform, &missing, 0x1, &UUID), not_ready);
+    assert_eq!(rt;
+        release_refusal(&platform, &missing, 0x101, &UUID),
+        not_ready
+    );
+    Ok(())
+}
+
+#[test]
+fn labels_that_are_not_released(rt: HostRuntime) -> Result<(), Fail> {
+    let platform = platform(&rt)?;
+    let read_only = Some(Refusal::ReadOnly { uuid: UUID });
+    // Those that are read-only or local are kept, and those of a namespace are not held.
+    for flags in [READ_ONLY, LOCAL] {
+        let kept = [
+            module(&rt, 0x1, AreaKind::Ready, Some(label(flags, 0)))?,
+            module(&rt, 0x101, AreaKind::Ready, None)?,
+        ];
+        assert_eq!(rt; held_fixed(&platform, &kept, 0x1, &UUID), read_only);
+        assert_eq!(rt; release_refusal(&platform, &kept, 0x1, &UUID), read_only);
+    }
+    let whole = [
+        module(&rt, 0x1, AreaKind::Ready, Some(label(0, 0)))?,
+        module(&rt, 0x101, AreaKind::Ready, Some(label(0, 1)))?,
+    ];
+    assert_eq!(rt;
+        release_refusal(&platform, &whole, 0x1, &UUID),
+        Some(Refusal::NotHeld)
+    );
+    assert_eq!(rt; is_held(&platform, &whole, 0x1, &label(0, 0)), false);
     Ok(())
 }

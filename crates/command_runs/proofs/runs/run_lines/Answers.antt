@@ -1,6 +1,19 @@
-use Rattle.std.proofs.Common.{map}
-use Rattle.command_runs.proofs.Going.{going-first, still-sized}
+use Rattle.std.proofs.Common.{◌≡◌, ◌+◌, ◌<◌, ℕ, suc, ◌||◌, Bool, Bor, List, [], Some, Result, Err, get_or, length, map, option_map, sym, ap, ◌∙◌, subst, arith}
+use Rattle.std.specs.Prelude.{slice_get}
+use Rattle.std.proofs.lemmas.Option.{slice_get-get_or, slice_get-map}
+use Rattle.cmd_words.specs.Lines.{command_in}
+use Rattle.command_runs.specs.declared.faults.LineFault.{LineFault}
+use Rattle.command_runs.specs.Turns.{Turns}
+use Rattle.command_runs.proofs.Ended.{cut-short}
+use Rattle.command_runs.proofs.Going.{IsGoing, any-moment-on, bytes-left-on, bytes-on, going-first, going-on, reads-on, still-sized}
+use Rattle.command_runs.proofs.runs.run_lines.Goals.{then-refused, else-refused}
 use Rattle.command_runs.proofs.runs.run_lines.Goals as goal
+
+abbrev no_line : Bor (List ℕ)
+no_line = record { ref_ptr = (0, 0); now = [] }
+
+next-is : (lines : List (Bor (List ℕ))) (k : ℕ) → k < length lines → slice_get (map (λ line. line.now) lines) k ≡ Some (get_or lines k no_line).now
+next-is lines k lt = slice_get-map (λ (line : Bor (List ℕ)). line.now) lines k ∙ ap (option_map (λ (line : Bor (List ℕ)). line.now)) (slice_get-get_or lines k no_line lt)
 
 pub loop-index-init : goal.loop-index-init
 loop-index-init g c = going-first g.R.Shown c.args.session.now c.args.seed (map (λ line. line.now) c.args.lines.now) c.args.rig.now c.requires.unspent
@@ -9,5 +22,40 @@ pub turn-requires-clause-sized : goal.turn-requires-clause-sized
 turn-requires-clause-sized g c =
     still-sized g.R.Shown c.args.session.now c.args.seed (map (λ line. line.now) c.args.lines.now) c.args.rig.now c.loop-index.index c.loop-index.session c.loop-index.rig c.loop-index.refused c.loop-index.invariant c.requires.sized
 
+pub loop-index-preserved : goal.loop-index-preserved
+loop-index-preserved g c =
+    let lines = map (λ line. line.now) c.args.lines.now in
+    let k = c.loop-index.index in
+    let refused_is : c.if-refused.refused ≡ (c.loop-index.refused || c.in-Ok.is_refused) = elim c.if-refused.branch [
+      | then-refused w ↦ w.refused-is ∙ w.if-refused.true ∙ sym (ap (λ (b : Bool). b || c.in-Ok.is_refused) w.if-refused.true)
+      | else-refused w ↦ w.refused-is ∙ sym (ap (λ (b : Bool). b || c.in-Ok.is_refused) w.if-refused.false)
+    ] in
+    let next : suc k ≡ k + 1 = omega arith in
+    subst (λ (n : ℕ). IsGoing g.R.Shown c.args.session.now c.args.seed lines c.args.rig.now n c.turn.new.session c.turn.new.rig c.if-refused.refused) next
+    (going-on g.R.Shown c.args.session.now c.args.seed lines c.args.rig.now k c.loop-index.session c.loop-index.rig c.loop-index.refused c.loop-index.invariant
+    (get_or c.args.lines.now k no_line).now (next-is c.args.lines.now k c.loop-index-test.true) c.turn.new.session c.turn.new.rig c.in-Ok.is_refused c.if-refused.refused c.in-Ok.ensures refused_is)
+
 pub returns-in-Err-clause-ends : goal.returns-in-Err-clause-ends
-returns-in-Err-clause-ends g c = let h = c.turn.ensures in ?
+returns-in-Err-clause-ends g c =
+    cut-short g.R.Shown c.args.session.now c.args.seed (map (λ line. line.now) c.args.lines.now) c.args.rig.now c.loop-index.index c.loop-index.session c.loop-index.rig c.loop-index.refused c.loop-index.invariant
+    (get_or c.args.lines.now c.loop-index.index no_line).now (next-is c.args.lines.now c.loop-index.index c.loop-index-test.true) c.turn.new.session c.turn.new.rig c.in-Err.fault c.in-Err.ensures
+
+pub returns-in-Err-clause-any_moment : goal.returns-in-Err-clause-any_moment
+returns-in-Err-clause-any_moment g c =
+    any-moment-on g.R.Shown c.args.session.now c.args.seed (map (λ line. line.now) c.args.lines.now) c.args.rig.now c.loop-index.index c.loop-index.session c.loop-index.rig c.loop-index.refused c.loop-index.invariant
+    (get_or c.args.lines.now c.loop-index.index no_line).now (next-is c.args.lines.now c.loop-index.index c.loop-index-test.true) c.turn.new.session c.turn.new.rig (Err c.in-Err.fault) c.in-Err.ensures
+
+pub returns-in-Err-clause-bytes : goal.returns-in-Err-clause-bytes
+returns-in-Err-clause-bytes g c =
+    bytes-on g.R.Shown c.args.session.now c.args.seed (map (λ line. line.now) c.args.lines.now) c.args.rig.now c.loop-index.index c.loop-index.session c.loop-index.rig c.loop-index.refused c.loop-index.invariant
+    (get_or c.args.lines.now c.loop-index.index no_line).now (next-is c.args.lines.now c.loop-index.index c.loop-index-test.true) c.turn.new.session c.turn.new.rig (Err c.in-Err.fault) c.in-Err.ensures
+
+pub returns-in-Err-clause-bytes_left : goal.returns-in-Err-clause-bytes_left
+returns-in-Err-clause-bytes_left g c =
+    bytes-left-on g.R.Shown c.args.session.now c.args.seed (map (λ line. line.now) c.args.lines.now) c.args.rig.now c.loop-index.index c.loop-index.session c.loop-index.rig c.loop-index.refused c.loop-index.invariant
+    (get_or c.args.lines.now c.loop-index.index no_line).now (next-is c.args.lines.now c.loop-index.index c.loop-index-test.true) c.turn.new.session c.turn.new.rig (Err c.in-Err.fault) c.in-Err.ensures
+
+pub returns-in-Err-clause-reads : goal.returns-in-Err-clause-reads
+returns-in-Err-clause-reads g c =
+    reads-on g.R.Shown c.args.session.now c.args.seed (map (λ line. line.now) c.args.lines.now) c.args.rig.now c.loop-index.index c.loop-index.session c.loop-index.rig c.loop-index.refused c.loop-index.invariant
+    (get_or c.args.lines.now c.loop-index.index no_line).now (next-is c.args.lines.now c.loop-index.index c.loop-index-test.true) c.turn.new.session c.turn.new.rig (Err c.in-Err.fault) c.in-Err.ensures

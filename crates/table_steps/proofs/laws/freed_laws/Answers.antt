@@ -1,4 +1,4 @@
-use Rattle.table_steps.proofs.Destroyed.{elsewhere, freed, gone, listed, ready, stays_free}
+use Rattle.table_steps.proofs.Destroyed.{distinct, elsewhere, freed, gone, listed, ready, stays_free}
 use Rattle.table_steps.proofs.laws.freed_laws.Goals as goal
 
 pub returns-clause-gone : goal.returns-clause-gone
@@ -20,3 +20,6 @@ returns-clause-ready c = λ P L M index key reply after done disjoint stands was
 pub returns-clause-elsewhere : goal.returns-clause-elsewhere
 returns-clause-elsewhere c = λ P L M index key reply after done disjoint stands q in_q other.
     elsewhere P L index key reply after done disjoint M stands q in_q other
+
+pub returns-clause-distinct : goal.returns-clause-distinct
+returns-clause-distinct c = λ P L M index key reply after done disjoint stands before. distinct P L index key reply after done disjoint M stands before

@@ -1,3 +1,5 @@
+use Rattle.table_steps.proofs.AcceptedChanges.{own-listed}
+use Rattle.table_steps.proofs.Names.{kept-name}
 use Rattle.table_steps.proofs.Renamed.{distinct, elsewhere, free-same, named, own-name, ready}
 use Rattle.table_steps.proofs.laws.name_laws.Goals as goal
 
@@ -21,3 +23,6 @@ returns-clause-ready c = λ P L M index key name reply after done disjoint stand
 pub returns-clause-elsewhere : goal.returns-clause-elsewhere
 returns-clause-elsewhere c = λ P L M index key name reply after done disjoint stands q in_q other.
     elsewhere P L index key name reply after done disjoint M stands q in_q other
+
+pub returns-clause-kept_name : goal.returns-clause-kept_name
+returns-clause-kept_name c = λ L r key own only distinct. kept-name L r key own only (own-listed L r key own only) distinct

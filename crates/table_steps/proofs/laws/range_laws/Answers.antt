@@ -1,4 +1,4 @@
-use Rattle.table_steps.proofs.Created.{elsewhere, multiple, ready, some, was_free, whole}
+use Rattle.table_steps.proofs.Created.{distinct, elsewhere, multiple, ready, some, was_free, whole}
 use Rattle.table_steps.proofs.laws.range_laws.Goals as goal
 
 pub returns-clause-aligned : goal.returns-clause-aligned
@@ -19,3 +19,6 @@ returns-clause-ready c = λ P L M free a reply after accepts disjoint stands. re
 pub returns-clause-elsewhere : goal.returns-clause-elsewhere
 returns-clause-elsewhere c = λ P L M free a reply after accepts disjoint stands q in_q other.
     elsewhere P L free a reply after accepts disjoint M stands q in_q other
+
+pub returns-clause-distinct : goal.returns-clause-distinct
+returns-clause-distinct c = λ P L M free a reply after accepts disjoint stands before. distinct P L free a reply after accepts disjoint M stands before
