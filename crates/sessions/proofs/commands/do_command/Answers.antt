@@ -71,8 +71,8 @@ returns-in-Destroy g c =
     let L = labels_in c.args.sets.now in
     subst (λ (command : Command). IsDone g.R.Shown P command c.args.own.now c.args.sets.now c.args.rig.now c.destroy.new.sets c.destroy.new.rig (run_by c.destroy.result)) (sym m.is)
     (change-is-done g.R.Shown P c.args.sets.now c.requires.state (commands.Destroy m.region m.key) c.args.own.now (modules_of P m.region) (Destroys P L m.region m.key)
-    (destroy-change P (slots_at c.args.sets.now) L c.args.own.now m.region m.key) c.args.rig.now c.destroy.new.sets c.destroy.new.rig c.destroy.result c.destroy.ensures.change
-    (region-among g.R.Shown c.args.rig.now c.destroy.new.rig P c.requires.sound m.region c.destroy.result c.destroy.ensures.change.cause))
+    (destroy-change P (slots_at c.args.sets.now) L c.args.own.now m.region m.key) c.args.rig.now c.destroy.new.sets c.destroy.new.rig c.destroy.result c.destroy.ensures
+    (region-among g.R.Shown c.args.rig.now c.destroy.new.rig P c.requires.sound m.region c.destroy.result c.destroy.ensures.cause))
 
 pub returns-in-Rename : goal.returns-in-Rename
 returns-in-Rename g c =
@@ -81,8 +81,8 @@ returns-in-Rename g c =
     let L = labels_in c.args.sets.now in
     subst (λ (command : Command). IsDone g.R.Shown P command c.args.own.now c.args.sets.now c.args.rig.now c.rename.new.sets c.rename.new.rig (run_by c.rename.result)) (sym m.is)
     (change-is-done g.R.Shown P c.args.sets.now c.requires.state (commands.Rename m.region m.key m.name) c.args.own.now (modules_of P m.region) (Renames P L m.region m.key m.name)
-    (rename-change P (slots_at c.args.sets.now) L c.args.own.now m.region m.key m.name) c.args.rig.now c.rename.new.sets c.rename.new.rig c.rename.result c.rename.ensures.change
-    (region-among g.R.Shown c.args.rig.now c.rename.new.rig P c.requires.sound m.region c.rename.result c.rename.ensures.change.cause))
+    (rename-change P (slots_at c.args.sets.now) L c.args.own.now m.region m.key m.name) c.args.rig.now c.rename.new.sets c.rename.new.rig c.rename.result c.rename.ensures
+    (region-among g.R.Shown c.args.rig.now c.rename.new.rig P c.requires.sound m.region c.rename.result c.rename.ensures.cause))
 
 pub returns-in-ReleaseHeld : goal.returns-in-ReleaseHeld
 returns-in-ReleaseHeld g c =
