@@ -36,6 +36,7 @@ use Rattle.table_steps.specs.Rename.{IsRenamed, Renames, rename_refusals}
 use Rattle.namespace_core.specs.declared.creation.ChangeFault.{ChangeFault}
 use Rattle.namespace_core.specs.declared.creation.ChangeFault.TheVariants.{Area, Memory}
 use Rattle.namespace_core.specs.Lists.{IsStateOf}
+use Rattle.namespace_core.specs.Releases.{IsAreaOf}
 use Rattle.namespace_core.specs.Changes.{IsBeforeOrBehind}
 use Rattle.namespace_core.specs.Commands.{IsChange}
 use Rattle.namespace_core.specs.Create.{HasChangeCause, WhereMemory, WhereRefused, modules_of}
@@ -98,6 +99,12 @@ pub region-among : {R : Type 0} (m : Ghosts R) (old new : R) (P : Platform) → 
 region-among m old new P sound index (Ok reply) cause = tt
 region-among m old new P sound index (Err (Area dimm)) cause = region-known P sound index dimm cause.1
 region-among m old new P sound index (Err Memory) cause = tt
+
+-- one on a module names it
+pub release-among : (P : Platform) (result : Result Reply ChangeFault) → IfErr result (IsAreaOf P) → IfErr (run_by result) (IsRunAmong P.modules)
+release-among P (Ok reply) among = tt
+release-among P (Err (Area dimm)) among = among
+release-among P (Err Memory) among = tt
 
 module _ {R : Type 0} (m : Ghosts R) (old new : R) (modules : List ℕ) where
   change-cause : (result : Result Reply ChangeFault) → HasChangeCause modules m old new result → HasRunCause m old new (run_by result)
