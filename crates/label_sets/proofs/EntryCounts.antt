@@ -3,6 +3,7 @@ use Rattle.std.proofs.Common.{◌≡◌, ℕ, zero, suc, ◌+◌, ◌<◌, ◌�
 use Rattle.std.specs.Prelude.{find}
 use Rattle.std.specs.List.{All, AllZip}
 use Rattle.std.proofs.lemmas.List.{get_or-map, length-append, length-map}
+use Rattle.std.proofs.lemmas.Option.{IfSome_then}
 use Rattle.std.proofs.lemmas.List.Elements.{AllZip-get_or}
 use Rattle.std.proofs.lemmas.List.Sorted.{length_permutation}
 use Rattle.extent_alloc.specs.Free.{FreeSpace}
@@ -55,7 +56,7 @@ entries-kept hs L M es fs was now same =
     length_permutation (live_entries hs M) fs now.live ∙ from-kept 0 hs L M same ∙ sym (length_permutation (live_entries hs L) es was.live)
 
 -- a region that is kept, with as many labels in each module, has as many entries and as much room
-pub room-kept : (ms now : List LoadedModule) (rs regions_now : List RegionLabels) (free : List FreeSpace) → HasRoom rs free
+pub room-kept : (ms now : List LoadedModule) (rs regions_now : List RegionLabels) (free : Option (List FreeSpace)) → HasRoom rs free
     → map region_in regions_now ≡ map region_in rs → All (IsOver ms) rs → All (IsOver now) regions_now
     → AllZip (KeepsRegion (λ (kept : RegionLabels). kept.index.room)) rs regions_now
     → ((h : ℕ) → number any_label (labels_in now h) ≡ number any_label (labels_in ms h)) → HasRoom regions_now free
@@ -66,10 +67,10 @@ room-kept ms now rs regions_now free has regions over over_now kept same = recor
       let members : length (get_or regions_now place d).region.members ≡ length (get_or rs place d).region.members = ap (λ (r : Region). length r.members) here.region in
       let before : length (get_or rs place d).region.members ≤ (get_or rs place d).index.room = has.labels place d (was-lt place lt) in
       omega (arith, room, members, before);
-  extents = λ place d e lt.
-      let before : length (get_or rs place d).index.entries < (get_or free place e).spare = has.extents place d e (was-lt place lt) in
+  extents = IfSome_then free has.extents (λ spaces rooms place d e lt.
+      let before : length (get_or rs place d).index.entries < (get_or spaces place e).spare = rooms place d e (was-lt place lt) in
       let entries : length (get_or regions_now place d).index.entries ≡ length (get_or rs place d).index.entries = entries-at place d lt in
-      omega (arith, before, entries);
+      omega (arith, before, entries));
 }
   where
     was-lt : (place : ℕ) → place < length regions_now → place < length rs

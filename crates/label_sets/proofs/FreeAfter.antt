@@ -1,11 +1,10 @@
 -- The free extents that are kept, after the table stayed, or a region gained a namespace.
-use Rattle.std.proofs.Common.{◌≡◌, ◌≢◌, inl, inr, ℕ, zero, suc, ◌+◌, ◌<◌, List, [], ◌∷◌, length, get_or, set, map, refl, sym, ap, subst, ◌∙◌, arith}
-use Rattle.std.specs.Prelude.{AllPairs}
-use Rattle.std.specs.List.{All, Contains}
+use Rattle.std.proofs.Common.{◌≡◌, ◌≢◌, inl, inr, ℕ, ◌<◌, List, Option, None, Some, length, get_or, map, sym, ap, subst, ◌∙◌, arith}
+use Rattle.std.specs.List.{Contains}
 use Rattle.std.proofs.lemmas.Bool.{cases_eq, cases_lt}
-use Rattle.std.proofs.lemmas.List.{get_or-map, get_or-set_other, get_or-set_same, length-map, length-set}
+use Rattle.std.proofs.lemmas.List.{get_or-map, length-map}
 use Rattle.std.proofs.lemmas.List.Elements.{Contains-get_or}
-use Rattle.view_types.specs.declared.namespaces.Namespace.{Namespace}
+use Rattle.std.proofs.lemmas.Option.{IfSome_then}
 use Rattle.view_types.specs.Intervals.{AreMaximal, is_free, without_range}
 use Rattle.extent_alloc.specs.Free.{FreeSpace}
 use Rattle.module_labels.specs.Labels.{Labels}
@@ -22,7 +21,8 @@ use Rattle.region_sets.specs.Fates.{platform_of, region_in, with_regions}
 use Rattle.region_sets.specs.Modules.{labels_in}
 use Rattle.region_changes.specs.Spaces.{GainsNamespace}
 use Rattle.region_changes.proofs.FreeSpace.{extents-kept, gained-elsewhere, gained-extents}
-use Rattle.label_sets.specs.Kept.{AllFree, IsFree}
+use Rattle.label_sets.specs.Free.{LosesKnownRange, LosesRange, LosesRangeAt}
+use Rattle.label_sets.specs.Kept.{AllFree, IsFree, IsKnownFree}
 
 -- regions of ascending index are apart
 ordered-apart : (rs : List Region) (i j : ℕ) (d : Region) → AreOrdered rs → i < j → j < length rs → (get_or rs i d).index < (get_or rs j d).index
@@ -71,34 +71,41 @@ module _ (ms : List LoadedModule) (rs : List RegionLabels) (free : List FreeSpac
   }
 
   -- the region at a place gained a namespace, whose range was taken out of its free extents
-  pub free-gained : (place : ℕ) (region : Region) (new : Space) (taken : FreeSpace) → place < length rs → ((d : RegionLabels) → (get_or rs place d).region ≡ region) → AreOrdered (map region_in rs)
-      → GainsNamespace (platform_of rs) region new (labels_in ms) (labels_in now)
-      → ((e : FreeSpace) → AreMaximal (get_or free place e).whole (without_range (is_free (get_or free place e).extents) new.offset new.length) taken.extents)
-      → ((e : FreeSpace) → taken.whole ≡ (get_or free place e).whole)
-      → AllFree now regions_now (set free place taken)
-  free-gained place region new taken within is ordered gains carved whole = record {
-    each = length-set free place taken ∙ was.each ∙ sym each;
+  pub free-gained : (place : ℕ) (region : Region) (new : Space) (after : List FreeSpace) → place < length rs → ((d : RegionLabels) → (get_or rs place d).region ≡ region) → AreOrdered (map region_in rs)
+      → GainsNamespace (platform_of rs) region new (labels_in ms) (labels_in now) → LosesRangeAt place new.offset new.length free after → AllFree now regions_now after
+  free-gained place region new after within is ordered gains loses = record {
+    each = loses.each ∙ was.each ∙ sym each;
     is = λ k d e lt.
         let old : k < length rs = subst (λ n. k < n) each lt in
         let had : IsFree ms rs (get_or rs k d) (get_or free k e) = was.is k d e old in
         elim (cases_eq k place) [
           | inl here ↦
               let region_is : (get_or rs k d).region ≡ region = ap (λ j. (get_or rs j d).region) here ∙ is d in
-              let found : get_or (set free place taken) k e ≡ taken = ap (λ j. get_or (set free place taken) j e) here ∙ get_or-set_same free place taken e (subst (λ n. place < n) (sym was.each) within) in
-              let before : AreFreeExtents (platform_of rs) (labels_in ms) region (get_or free place e).extents =
-              subst (λ (r : Region). AreFreeExtents (platform_of rs) (labels_in ms) r (get_or free place e).extents) region_is (subst (λ j. AreFreeExtents (platform_of rs) (labels_in ms) (get_or rs k d).region (get_or free j e).extents) here had.extents) in
-              let whole_is : (get_or free place e).whole ≡ part_size region = sym (ap (λ j. (get_or free j e).whole) here) ∙ had.whole ∙ ap part_size region_is in
-              let after : AreFreeExtents (platform_of rs) (labels_in now) region taken.extents =
-              gained-extents (platform_of rs) region new (labels_in ms) (labels_in now) gains (get_or free place e).extents taken.extents before
-              (subst (λ n. AreMaximal n (without_range (is_free (get_or free place e).extents) new.offset new.length) taken.extents) whole_is (carved e)) in
-              subst (IsFree now regions_now (get_or regions_now k d)) (sym found)
-              (moved k d taken old (subst (λ (r : Region). AreFreeExtents (platform_of rs) (labels_in now) r taken.extents) (sym region_is) after) (whole e ∙ whole_is ∙ ap part_size (sym region_is)))
+              let lost : LosesRange new.offset new.length (get_or free k e) (get_or after k e) = subst (λ j. LosesRange new.offset new.length (get_or free j e) (get_or after j e)) (sym here) (loses.here e) in
+              let before : AreFreeExtents (platform_of rs) (labels_in ms) region (get_or free k e).extents =
+              subst (λ (r : Region). AreFreeExtents (platform_of rs) (labels_in ms) r (get_or free k e).extents) region_is had.extents in
+              let whole_is : (get_or free k e).whole ≡ part_size region = had.whole ∙ ap part_size region_is in
+              let gained : AreFreeExtents (platform_of rs) (labels_in now) region (get_or after k e).extents =
+              gained-extents (platform_of rs) region new (labels_in ms) (labels_in now) gains (get_or free k e).extents (get_or after k e).extents before
+              (subst (λ n. AreMaximal n (without_range (is_free (get_or free k e).extents) new.offset new.length) (get_or after k e).extents) whole_is lost.taken) in
+              moved k d (get_or after k e) old (subst (λ (r : Region). AreFreeExtents (platform_of rs) (labels_in now) r (get_or after k e).extents) (sym region_is) gained) (lost.whole ∙ had.whole)
           | inr differ ↦
               let other : (get_or rs k d).region ≢ region = λ same_region.
               regions-apart (map region_in rs) k place d.region ordered (subst (λ n. k < n) (sym (length-map rs region_in)) old) (subst (λ n. place < n) (sym (length-map rs region_in)) within) differ
               (get_or-map region_in rs k d d.region old ∙ same_region ∙ sym (is d) ∙ sym (get_or-map region_in rs place d d.region within)) in
-              subst (IsFree now regions_now (get_or regions_now k d)) (sym (get_or-set_other free place k taken e differ))
+              subst (IsFree now regions_now (get_or regions_now k d)) (sym (loses.others k e differ))
               (moved k d (get_or free k e) old
               (gained-elsewhere (platform_of rs) region new (labels_in ms) (labels_in now) gains (get_or rs k d).region (listed k d old) other (get_or free k e).extents had.extents) had.whole)
         ];
   }
+
+-- The same where the free extents are known, and else they are not known afterwards.
+module _ (ms : List LoadedModule) (rs : List RegionLabels) (disjoint : IsDisjoint (platform_of rs)) (now : List LoadedModule) (regions_now : List RegionLabels) (same : map region_in regions_now ≡ map region_in rs) where
+  pub known-kept : (free : Option (List FreeSpace)) → IsKnownFree ms rs free → table (platform_of rs) (labels_in now) ≡ table (platform_of rs) (labels_in ms) → IsKnownFree now regions_now free
+  known-kept free known table_same = IfSome_then free known (λ spaces all. free-kept ms rs spaces all disjoint now regions_now same table_same)
+
+  pub known-gained : (free after : Option (List FreeSpace)) → IsKnownFree ms rs free → (place : ℕ) (region : Region) (new : Space) → place < length rs → ((d : RegionLabels) → (get_or rs place d).region ≡ region) → AreOrdered (map region_in rs)
+      → GainsNamespace (platform_of rs) region new (labels_in ms) (labels_in now) → LosesKnownRange place new.offset new.length free after → IsKnownFree now regions_now after
+  known-gained None after known place region new within is ordered gains loses = subst (IsKnownFree now regions_now) (sym loses) tt
+  known-gained (Some spaces) after all place region new within is ordered gains loses =
+      IfSome_then after loses (λ left lost. free-gained ms rs spaces all disjoint now regions_now same place region new left within is ordered gains lost)

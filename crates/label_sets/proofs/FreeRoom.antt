@@ -2,8 +2,9 @@
 use Rattle.std.proofs.Common.{◌≡◌, ℕ, zero, suc, ◌*◌, ◌-◌, ◌<◌, ◌^◌, List, [], ◌∷◌, length, get_or, map, min, Option, Some, None, refl, sym, ap, subst, ◌∙◌, arith}
 use Rattle.std.proofs.lemmas.List.{get_or-map}
 use Rattle.std.proofs.lemmas.List.Elements.{All-get_or}
+use Rattle.std.proofs.lemmas.Option.{get_or_from_slice_get, none-some}
 use Rattle.view_types.specs.declared.extents.Extent.{Extent}
-use Rattle.std.specs.Prelude.{IfNone, IfSome}
+use Rattle.std.specs.Prelude.{IfNone, IfSome, IsSome, slice_get}
 use Rattle.view_types.specs.Intervals.{IsFirstFit, NoneFits, greatest_aligned, is_free}
 use Rattle.module_labels.specs.Labels.{Labels}
 use Rattle.region_map.specs.declared.platform.Platform.{Platform}
@@ -13,11 +14,13 @@ use Rattle.label_table.specs.Division.{AreFreeExtents, alignment, largest, part_
 use Rattle.label_table.proofs.Partition.{maximal-one}
 use Rattle.label_table.specs.Division.{is_common_free}
 use Rattle.extent_alloc.specs.Free.{FreeSpace}
+use Rattle.region_sets.specs.declared.modules.LoadedModule.{LoadedModule}
 use Rattle.region_sets.specs.declared.region.RegionLabels.{RegionLabels}
 use Rattle.region_sets.specs.Fates.{platform_of, region_in}
 use Rattle.region_sets.specs.Modules as modules
 use Rattle.label_sets.specs.declared.sets.Sets.TheInside.{Inside}
-use Rattle.label_sets.specs.Kept.{IsFree, IsKept, shown}
+use Rattle.label_sets.specs.Free.{space_at}
+use Rattle.label_sets.specs.Kept.{IsFree, IsKept, IsKnownFree, shown}
 use Rattle.label_sets.specs.Largest.{IsLargestOf, TellsLargest}
 use Rattle.label_sets.specs.Lookups.{FitsFirst, FitsFirstIn, IsFitIn, IsKeptRegion}
 use Rattle.region_sets.specs.Regions.{IsOver}
@@ -47,37 +50,46 @@ region_found inside index place kept lt is_region found =
     let at : get_or (map region_in inside.regions.items) place kept.region ≡ kept.region = get_or-map region_in inside.regions.items place kept kept.region lt ∙ ap region_in (sym is_region) in
     found.1 kept.region ∙ ap Some at
 
--- and its free space is kept beside it
-free_found : (inside : Inside) (place : ℕ) (kept : RegionLabels) (free : FreeSpace) → IsKept inside → place < length inside.regions.items → kept ≡ get_or inside.regions.items place kept → free ≡ get_or inside.free.items place free
-    → IsFree inside.modules.items inside.regions.items kept free
-free_found inside place kept free is_kept lt is_region is_free =
-    subst (λ f. IsFree inside.modules.items inside.regions.items kept f) (sym is_free) (subst (λ k. IsFree inside.modules.items inside.regions.items k (get_or inside.free.items place free)) (sym is_region) (is_kept.free.is place kept free lt))
+-- the free space of the region at a place, where it is known
+pub known-free : (ms : List LoadedModule) (rs : List RegionLabels) (spaces : Option (List FreeSpace)) (place : ℕ) (kept : RegionLabels) (free : FreeSpace) → IsKnownFree ms rs spaces → place < length rs → kept ≡ get_or rs place kept
+    → space_at spaces place ≡ Some free → IsFree ms rs kept free
+known-free ms rs None place kept free known lt is_region e = absurd (none-some free e)
+known-free ms rs (Some spaces) place kept free all lt is_region e =
+    subst (λ f. IsFree ms rs kept f) (get_or_from_slice_get spaces place free free e) (subst (λ k. IsFree ms rs k (get_or spaces place free)) (sym is_region) (all.is place kept free lt))
+
+-- where it is known, each region has it
+pub known-there : (ms : List LoadedModule) (rs : List RegionLabels) (spaces : Option (List FreeSpace)) (place : ℕ) → IsSome spaces → IsKnownFree ms rs spaces → place < length rs → space_at spaces place ≡ None → ⊥
+known-there ms rs None place some known lt e = absurd cc
+known-there ms rs (Some spaces) place some all lt e = missing spaces place (let each = all.each in omega arith) e
+  where
+    missing : (xs : List FreeSpace) (k : ℕ) → k < length xs → slice_get xs k ≡ None → ⊥
+    missing [] k less none = absurd (omega arith)
+    missing (x ∷ xs) zero less none = none-some x (sym none)
+    missing (x ∷ xs) (suc k) less none = missing xs k (omega arith) none
 
 module _ (inside : Inside) (sets : StoredSets) (same : shown inside ≡ sets) (index : ℕ) where
   pub tells_none : IsPlaceOf (map region_in inside.regions.items) index None → TellsLargest sets index None
   tells_none none = subst (λ (s : StoredSets). TellsLargest s index None) same (subst (λ (found : Option Region). IsLargestOf (platform_in (shown inside)) (labels_in (shown inside)) found None) (sym none) tt)
 
-  pub tells_largest : (place : ℕ) (kept : RegionLabels) (free : FreeSpace) → IsKept inside → place < length inside.regions.items → kept ≡ get_or inside.regions.items place kept → free ≡ get_or inside.free.items place free
+  pub tells_largest : (place : ℕ) (kept : RegionLabels) (free : FreeSpace) → place < length inside.regions.items → kept ≡ get_or inside.regions.items place kept → IsFree inside.modules.items inside.regions.items kept free
       → IsPlaceOf (map region_in inside.regions.items) index (Some place) → (size : ℕ)
       → size ≡ min (length kept.region.members * greatest_aligned alignment free.extents) (2 ^ 64 - 1) → TellsLargest sets index (Some size)
-  tells_largest place kept free is_kept lt is_region is_free found size size_is =
+  tells_largest place kept free lt is_region whole found size size_is =
       let P = platform_of inside.regions.items in
       let L = modules.labels_in inside.modules.items in
       let region : region_at P index ≡ Some kept.region = region_found inside index place kept lt is_region found in
-      let whole = free_found inside place kept free is_kept lt is_region is_free in
       subst (λ (s : StoredSets). TellsLargest s index (Some size)) same (subst (λ (r : Option Region). IsLargestOf P L r (Some size)) (sym region)
       (λ extents are. size_is ∙ ap (λ n. min (length kept.region.members * n) (2 ^ 64 - 1)) (kept_is P L kept.region free whole.extents extents are)))
 
   pub fits_none : IsPlaceOf (map region_in inside.regions.items) index None → (len : ℕ) → FitsFirst sets index len None
   fits_none none len = subst (λ (s : StoredSets). FitsFirst s index len None) same (subst (λ (found : Option Region). FitsFirstIn (platform_in (shown inside)) (labels_in (shown inside)) len found None) (sym none) refl)
 
-  pub fits_first : (place : ℕ) (kept : RegionLabels) (free : FreeSpace) → IsKept inside → place < length inside.regions.items → kept ≡ get_or inside.regions.items place kept → free ≡ get_or inside.free.items place free
+  pub fits_first : (place : ℕ) (kept : RegionLabels) (free : FreeSpace) → place < length inside.regions.items → kept ≡ get_or inside.regions.items place kept → IsFree inside.modules.items inside.regions.items kept free
       → IsPlaceOf (map region_in inside.regions.items) index (Some place) → (len : ℕ) (fit : Option ℕ) → IsFitIn free.extents len fit → FitsFirst sets index len fit
-  fits_first place kept free is_kept lt is_region is_free found len fit fits =
+  fits_first place kept free lt is_region whole found len fit fits =
       let P = platform_of inside.regions.items in
       let L = modules.labels_in inside.modules.items in
       let r = kept.region in
-      let whole = free_found inside place kept free is_kept lt is_region is_free in
       subst (λ (s : StoredSets). FitsFirst s index len fit) same (subst (λ (o : Option Region). FitsFirstIn P L len o fit) (sym (region_found inside index place kept lt is_region found))
       (λ extents are. subst (λ es. IsFitIn es len fit) (maximal-one (part_size r) (is_common_free P L r) free.extents extents whole.extents are) fits))
 

@@ -1,12 +1,15 @@
 -- Room that is made leaves all else as it is.
-use Rattle.std.proofs.Common.{◌≡◌, ℕ, ◌+◌, ◌<◌, ◌∷◌, [], List, length, get_or, map, take, set, refl, sym, ap, subst, ◌∙◌, inl, inr, arith}
+use Rattle.std.proofs.Common.{◌≡◌, ℕ, ◌+◌, ◌<◌, ◌∷◌, [], List, Option, None, Some, length, get_or, map, take, set, refl, sym, ap, subst, ◌∙◌, inl, inr, arith}
+use Rattle.std.specs.Prelude.{IfSome}
 use Rattle.std.specs.List.{All}
+use Rattle.std.specs.Option.{option_map}
 use Rattle.std.specs.Vec.{with_items}
 use Rattle.std.specs.declared.vec.Vec.{Vec}
 use Rattle.std.proofs.lemmas.Bool.{cases_lt}
 use Rattle.std.proofs.lemmas.Grind.{take-set_at, get_or-set_at}
 use Rattle.std.proofs.lemmas.List.{get_or-map, get_or-set_other, length-map, with_items_is}
 use Rattle.std.proofs.lemmas.List.Elements.{All-push}
+use Rattle.std.proofs.lemmas.Option.{same_Some}
 use Rattle.extent_alloc.specs.Free.{FreeSpace}
 use Rattle.region_map.specs.declared.platform.Platform.{Platform}
 use Rattle.region_map.specs.declared.platform.Region.{Region}
@@ -16,8 +19,8 @@ use Rattle.region_sets.specs.Fates.{platform_of, region_in, with_regions}
 use Rattle.region_sets.specs.Modules.{labels_in}
 use Rattle.region_sets.specs.Regions.{IsOver}
 use Rattle.label_table.specs.Division.{AreFreeExtents, part_size}
-use Rattle.label_sets.specs.Kept.{AllFree, HasFewMembers, IsFree}
-use Rattle.label_sets.specs.Room.{HasExtentRoom, HasLabelRoom, HasRoom, without_room, without_spare}
+use Rattle.label_sets.specs.Kept.{AllFree, HasFewMembers, IsFree, IsKnownFree}
+use Rattle.label_sets.specs.Room.{HasExtentRoom, HasLabelRoom, HasRoom, HaveExtentRoom, without_room, without_spare}
 
 -- two lists that agree after a function, at a place
 at-place : {A B : Type 0} (f : A → B) (xs ys : List A) → map f xs ≡ map f ys → (place : ℕ) (d e : A) → place < length xs → (place < length ys) × (f (get_or xs place d) ≡ f (get_or ys place e))
@@ -107,8 +110,16 @@ spare-more regions free at new lt before here place d e below = elim (cases_lt p
       subst (λ (f : FreeSpace). HasExtentRoom (get_or regions place d) f) (sym (get_or-set_at free at place new e same lt)) (subst (λ p. HasExtentRoom (get_or regions p d) new) (sym same) (here d))
 ]
 
+-- The same of free space that is known or not.
+module _ (now was : Option (List FreeSpace)) (same : option_map (map without_spare) now ≡ option_map (map without_spare) was) where
+  pub known-still : (modules : List LoadedModule) (regions : List RegionLabels) → IsKnownFree modules regions was → IsKnownFree modules regions now
+  known-still modules regions known = by now was same known
+    where
+      by : (a b : Option (List FreeSpace)) → option_map (map without_spare) a ≡ option_map (map without_spare) b → IsKnownFree modules regions b → IsKnownFree modules regions a
+      by None b e all = tt
+      by (Some xs) None e all = absurd cc
+      by (Some xs) (Some ys) e all = still-free-spare modules regions xs ys (same_Some (map without_spare xs) (map without_spare ys) e) all
+
 -- there is room for a change of each of them
-pub has-room : (regions was : List RegionLabels) (free wanted : List FreeSpace) → was ≡ regions → wanted ≡ free → All HasLabelRoom regions
-    → ((place : ℕ) (d : RegionLabels) (e : FreeSpace) → place < length regions → HasExtentRoom (get_or regions place d) (get_or free place e)) → HasRoom was wanted
-has-room regions was free wanted same same_free labels extents =
-    subst (λ fs. HasRoom was fs) (sym same_free) (subst (λ rs. HasRoom rs free) (sym same) (record { labels = labels; extents = extents }))
+pub has-room : (regions was : List RegionLabels) (free : Option (List FreeSpace)) → was ≡ regions → All HasLabelRoom regions → IfSome free (HaveExtentRoom regions) → HasRoom was free
+has-room regions was free same labels extents = subst (λ rs. HasRoom rs free) (sym same) (record { labels = labels; extents = extents })

@@ -6,6 +6,7 @@ use Rattle.std.proofs.Math.Nat.{mul-div_cancel_left}
 use Rattle.std.proofs.lemmas.Bool.{and_parts, ltb-true}
 use Rattle.std.proofs.lemmas.List.{get_or-map, length-map}
 use Rattle.std.proofs.lemmas.List.Elements.{Contains-get_or}
+use Rattle.std.proofs.lemmas.Option.{IfSome_then}
 use Rattle.view_types.specs.declared.namespaces.Namespace.{Namespace}
 use Rattle.extent_alloc.specs.Free.{FreeSpace}
 use Rattle.module_labels.specs.declared.kind.AreaKind.{AreaKind}
@@ -28,7 +29,7 @@ use Rattle.region_sets.specs.declared.region.RegionLabels.{RegionLabels}
 use Rattle.region_sets.specs.Fates.{platform_of, region_in}
 use Rattle.region_sets.specs.Modules.{labels_in}
 use Rattle.module_flips.specs.Together.{IsTogether, free_slots}
-use Rattle.label_sets.specs.Kept.{AllFree}
+use Rattle.label_sets.specs.Kept.{IsKnownFree}
 use Rattle.label_sets.specs.Room.{HasExtentRoom, HasRoom}
 use Rattle.label_sets.specs.Staging.{CanStageAt, IsOpenRange}
 use Rattle.label_sets.specs.Views.{IsPlaceOf}
@@ -109,7 +110,7 @@ module _ (P : Platform) (sound : IsSound P) (ms : List LoadedModule) (rs : List 
   pub place-ordered : AreOrdered (map region_in rs)
   place-ordered = subst AreOrdered same (ordered P sound)
 
-  pub can-stage : (free : List FreeSpace) (space : Namespace) → IsTogether ms rs → AllFree ms rs free → HasRoom rs free
+  pub can-stage : (free : Option (List FreeSpace)) (space : Namespace) → IsTogether ms rs → IsKnownFree ms rs free → HasRoom rs free
       → status (labels_in ms) r ≡ RegionReady → All (λ (member : Member). HasNone space.uuid (labels_in ms member.handle)) r.members
       → All (λ (loaded : LoadedModule). is_member r loaded.dimm ≡ true → 0 < free_slots loaded) ms
       → IsOpenRange (platform_of rs) (labels_in ms) r space → 0 < space.length → CanStageAt ms rs free place r space
@@ -137,8 +138,8 @@ module _ (P : Platform) (sound : IsSound P) (ms : List LoadedModule) (rs : List 
     is_open = is_open;
     ordered = place-ordered;
     all_free = all_free;
-    spare = λ e.
+    spare = IfSome_then free room.extents (λ spaces rooms e.
         let d = (element rs place place-within).0 in
-        let more : HasExtentRoom (get_or rs place d) (get_or free place e) = room.extents place d e place-within in
-        omega (arith, more);
+        let more : HasExtentRoom (get_or rs place d) (get_or spaces place e) = rooms place d e place-within in
+        omega (arith, more));
   }

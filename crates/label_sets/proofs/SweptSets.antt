@@ -7,6 +7,7 @@ use Rattle.std.specs.Vec.{with_items}
 use Rattle.std.specs.declared.vec.Vec.{Vec}
 use Rattle.std.proofs.lemmas.List.{ext_get_or, get_or-map, length-append, length-map, with_items_is}
 use Rattle.std.proofs.lemmas.List.Elements.{AllZip-get_or}
+use Rattle.std.proofs.lemmas.Option.{IfSome_then}
 use Rattle.std.proofs.lemmas.List.Sorted.{length_permutation}
 use Rattle.rig_trait.specs.declared.shown.Shown.{Ghosts}
 use Rattle.rig_trait.specs.Frames.{LeavesOnly}
@@ -36,7 +37,7 @@ use Rattle.region_changes.specs.SlotLabels.{slot_labels}
 use Rattle.region_changes.proofs.ChangedModules.{dimm-at, handles-same, labels-at, once-after}
 use Rattle.region_changes.proofs.FreeSpace.{extents-kept}
 use Rattle.module_flips.specs.Flips.{CanFree, HasLabelsInUse, IsReadyArea, IsFreedAt, IsOwn, standing_in, with_free, without_slots_at}
-use Rattle.label_sets.specs.Kept.{AllFree, HasFewMembers, IsFree}
+use Rattle.label_sets.specs.Kept.{AllFree, HasFewMembers, IsFree, IsKnownFree}
 use Rattle.label_sets.specs.Room.{HasRoom, HasSlotsWithin}
 use Rattle.label_sets.specs.Sweeps.{IsSwept, IsSweptTo, is_unwanted, unwanted_slots}
 use Rattle.module_flips.specs.Stops.{IsOneOf, LeftIn}
@@ -211,8 +212,8 @@ module _ (ms : List LoadedModule) (rs : List RegionLabels) (seat : ℕ) (lt : se
     pub now-few : All HasFewMembers rs → All HasFewMembers regions
     now-few few place d p_lt = subst (λ (r : Region). length r.members < 2 ^ 16) (sym (region-at place d p_lt)) (few place d (subst (λ n. place < n) (sym same-length) p_lt))
 
-    pub now-free : (free : List FreeSpace) → AllFree ms rs free → AllFree now regions free
-    now-free free all = record {
+    pub all-free : (free : List FreeSpace) → AllFree ms rs free → AllFree now regions free
+    all-free free all = record {
       each = all.each ∙ same-length;
       is = λ place d e p_lt.
           let p_rs : place < length rs = subst (λ n. place < n) (sym same-length) p_lt in
@@ -228,6 +229,9 @@ module _ (ms : List LoadedModule) (rs : List RegionLabels) (seat : ℕ) (lt : se
             whole = before.whole ∙ ap part_size (sym (region-at place d p_lt));
           };
     }
+
+    pub now-free : (free : Option (List FreeSpace)) → IsKnownFree ms rs free → IsKnownFree now regions free
+    now-free free known = IfSome_then free known all-free
 
     pub now-swept : (d : LoadedModule) → IsSwept (platform_of regions) (labels_in now) (get_or now seat d)
     now-swept d =
@@ -250,7 +254,7 @@ module _ (ms : List LoadedModule) (rs : List RegionLabels) (seat : ℕ) (lt : se
           fewer-entries (platform_of rs) (labels_in ms) left left-out (handles (get_or rs place d).region) 0 in
           omega (arith, before, after, less)
 
-      now-room : (free : List FreeSpace) → HasRoom rs free → HasRoom regions free
+      now-room : (free : Option (List FreeSpace)) → HasRoom rs free → HasRoom regions free
       now-room free has = record {
         labels = λ place d p_lt.
             let p_rs : place < length rs = subst (λ n. place < n) (sym same-length) p_lt in
@@ -260,11 +264,11 @@ module _ (ms : List LoadedModule) (rs : List RegionLabels) (seat : ℕ) (lt : se
             let before : length (get_or rs place d).region.members ≤ (get_or rs place d).index.room = has.labels place d p_rs in
             let grown : (get_or rs place d).index.room ≤ room (get_or rs place d) = grows (get_or rs place d) in
             omega (arith, more, members, before, grown);
-        extents = λ place d e p_lt.
+        extents = IfSome_then free has.extents (λ spaces rooms place d e p_lt.
             let p_rs : place < length rs = subst (λ n. place < n) (sym same-length) p_lt in
-            let before : length (get_or rs place d).index.entries < (get_or free place e).spare = has.extents place d e p_rs in
+            let before : length (get_or rs place d).index.entries < (get_or spaces place e).spare = rooms place d e p_rs in
             let less : length (get_or regions place d).index.entries ≤ length (get_or rs place d).index.entries = fewer place d p_lt in
-            omega (arith, before, less);
+            omega (arith, before, less));
       }
 
       pub swept-to : IsSweptTo ms rs now regions seat

@@ -1,5 +1,7 @@
 -- What is shown of a region or a module by what is kept is shown of the state.
-use Rattle.std.proofs.Common.{◌≡◌, ℕ, ◌<◌, List, [], length, get_or, map, None, refl, sym, ap, subst, ◌∙◌, arith}
+use Rattle.std.proofs.Common.{◌≡◌, ℕ, ◌<◌, List, [], length, get_or, map, None, Result, Ok, Err, refl, sym, ap, subst, ◌∙◌, arith}
+use Rattle.std.specs.Prelude.{IfOk}
+use Rattle.std.specs.declared.alloc.AllocError.{AllocError}
 use Rattle.std.proofs.lemmas.List.{get_or-map, length-map}
 use Rattle.view_types.specs.declared.extents.Extent.{Extent}
 use Rattle.view_types.specs.declared.namespaces.Held.{Held}
@@ -51,6 +53,19 @@ shows-free P L r s st es list is lists are = subst (ShowsFree P L r s) (sym (lis
     by (AreaNotReady handle kind) = refl
     by (Clash first second) = refl
     by RegionReady = are
+
+-- So they are of the region at a place, whatever way they were built.
+module _ (inside : Inside) (sets : StoredSets) (same : shown inside ≡ sets) (place : ℕ) (kept : RegionLabels) (is : kept ≡ get_or inside.regions.items place kept) (lt : place < length inside.regions.items) where
+  pub region-there : (d : Region) → get_or sets.regions place d ≡ kept.region
+  region-there d = ap (λ (s : StoredSets). get_or s.regions place d) (sym same) ∙ get_or-map region_in inside.regions.items place kept d lt ∙ ap region_in (sym is)
+
+  pub free-shown : (extents : List Extent) → AreFreeExtents (platform_of inside.regions.items) (modules.labels_in inside.modules.items) kept.region extents → (listed : Result (List Extent) AllocError) (status : Status)
+      → IfOk listed (λ list. list ≡ where_ready status extents) → (d : Region) (told : RegionStatus) → status ≡ shown_status told → IfOk listed (ShowsFree (platform_in sets) (labels_in sets) (get_or sets.regions place d) told)
+  free-shown extents are (Err e) status lists d told is_told = tt
+  free-shown extents are (Ok list) status lists d told is_told =
+      subst (λ (r : Region). ShowsFree (platform_in sets) (labels_in sets) r told list) (sym (region-there d))
+      (subst (λ (s : StoredSets). ShowsFree (platform_in s) (labels_in s) kept.region told list) same
+      (shows-free (platform_of inside.regions.items) (modules.labels_in inside.modules.items) kept.region told status extents list is_told lists are))
 
 abbrev pub no_region : Region
 no_region = record { index = 0; spa = 0; length = 0; rule = None; members = []; cookie = 0 }

@@ -1,5 +1,5 @@
 -- What is kept beside the modules: the index and the free extents of each region, and room for changes.
-use Rattle.std.specs.Prelude.{◌≡◌, ℕ, ◌<◌, ◌^◌, true, List, length, map, slice_index_or, vec_capacity}
+use Rattle.std.specs.Prelude.{◌≡◌, ℕ, ◌<◌, ◌^◌, true, IfSome, List, Option, length, map, slice_index_or, vec_capacity}
 use Rattle.std.specs.List.{All}
 use Rattle.extent_alloc.specs.Free.{FreeSpace}
 use Rattle.label_table.specs.Belonging.{IsDisjoint}
@@ -26,6 +26,10 @@ pub record AllFree (modules : List LoadedModule) (regions : List RegionLabels) (
   pub is : (place : ℕ) (d : RegionLabels) (e : FreeSpace) → place < length regions
       → IsFree modules regions (slice_index_or regions place d) (slice_index_or free place e)
 
+-- so it is where the free extents are known
+abbrev pub IsKnownFree : List LoadedModule → List RegionLabels → Option (List FreeSpace) → Type 0
+IsKnownFree modules regions free = IfSome free (AllFree modules regions)
+
 -- a region has few members
 abbrev pub HasFewMembers : RegionLabels → Type 0
 HasFewMembers kept = length kept.region.members < 2 ^ 16
@@ -39,9 +43,9 @@ pub record IsKept (sets : Inside) : Type 0 where
   pub in_use : All HasLabelsInUse sets.modules.items
   pub disjoint : IsDisjoint (platform_of sets.regions.items)
   pub over : All (IsOver sets.modules.items) sets.regions.items
-  pub free : AllFree sets.modules.items sets.regions.items sets.free.items
+  pub free : IsKnownFree sets.modules.items sets.regions.items sets.free
   pub few : All HasFewMembers sets.regions.items
   -- the slots of any module can be listed without memory
   pub slots : All (HasSlotsWithin (vec_capacity sets.slots)) sets.modules.items
   pub lost : All (HasSlotsWithin (vec_capacity sets.lost)) sets.modules.items
-  pub room : sets.room ≡ true → HasRoom sets.regions.items sets.free.items
+  pub room : sets.room ≡ true → HasRoom sets.regions.items sets.free

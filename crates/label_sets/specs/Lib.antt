@@ -4,6 +4,7 @@ pub mod Loads
 pub mod Codes
 pub mod Sets
 pub mod Room
+pub mod Free
 pub mod Kept
 pub mod Views
 pub mod Largest

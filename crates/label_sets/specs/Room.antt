@@ -1,5 +1,5 @@
 -- The memory that is taken before a change.
-use Rattle.std.specs.Prelude.{ℕ, ◌<◌, ◌≤◌, List, length, slice_index_or}
+use Rattle.std.specs.Prelude.{ℕ, ◌<◌, ◌≤◌, IfSome, List, Option, length, slice_index_or}
 use Rattle.std.specs.List.{All}
 use Rattle.extent_alloc.specs.Free.{FreeSpace}
 use Rattle.region_sets.specs.declared.modules.LoadedModule.{LoadedModule}
@@ -18,11 +18,15 @@ HasLabelRoom kept = length kept.region.members ≤ kept.index.room
 abbrev pub HasExtentRoom : RegionLabels → FreeSpace → Type 0
 HasExtentRoom kept free = length kept.index.entries < free.spare
 
+-- so there is in the free space of each region
+abbrev pub HaveExtentRoom : List RegionLabels → List FreeSpace → Type 0
+HaveExtentRoom regions free = (place : ℕ) (d : RegionLabels) (e : FreeSpace) → place < length regions
+    → HasExtentRoom (slice_index_or regions place d) (slice_index_or free place e)
+
 -- there is room for a change of each region
-pub record HasRoom (regions : List RegionLabels) (free : List FreeSpace) : Type 0 where
+pub record HasRoom (regions : List RegionLabels) (free : Option (List FreeSpace)) : Type 0 where
   pub labels : All HasLabelRoom regions
-  pub extents : (place : ℕ) (d : RegionLabels) (e : FreeSpace) → place < length regions
-      → HasExtentRoom (slice_index_or regions place d) (slice_index_or free place e)
+  pub extents : IfSome free (HaveExtentRoom regions)
 
 -- all of a region but the room of its index
 abbrev pub without_room : RegionLabels → RegionLabels

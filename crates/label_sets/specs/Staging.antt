@@ -1,5 +1,5 @@
 -- What staging a namespace in one of the regions asks and gives.
-use Rattle.std.specs.Prelude.{◌≡◌, ℕ, ◌+◌, ◌≤◌, ◌<◌, true, List, Some, length, map, slice_index_or}
+use Rattle.std.specs.Prelude.{◌≡◌, ℕ, ◌+◌, ◌≤◌, ◌<◌, true, IfSome, List, Option, Some, length, map, slice_index_or}
 use Rattle.std.specs.List.{All}
 use Rattle.view_types.specs.declared.namespaces.Namespace.{Namespace}
 use Rattle.extent_alloc.specs.Free.{FreeSpace}
@@ -19,7 +19,7 @@ use Rattle.region_sets.specs.Fates.{platform_of, region_in}
 use Rattle.region_sets.specs.Modules as loaded
 use Rattle.module_flips.specs.Together.{free_slots}
 use Rattle.namespace_staging.specs.Staging.{CanStage}
-use Rattle.label_sets.specs.Kept.{AllFree}
+use Rattle.label_sets.specs.Kept.{IsKnownFree}
 use Rattle.label_sets.specs.Sets.{StoredSets, labels_in, platform_in}
 
 -- each offset of a namespace's range is common free
@@ -28,15 +28,15 @@ IsOpenRange platform labels region space = (offset : ℕ) → space.offset ≤ o
     → is_common_free platform labels region offset ≡ true
 
 -- A region stands at a place among the regions, and a namespace can be staged there.
-pub record CanStageAt (modules : List LoadedModule) (regions : List RegionLabels) (free : List FreeSpace) (place : ℕ)
-    (region : Region) (space : Namespace) : Type 0 where
+pub record CanStageAt (modules : List LoadedModule) (regions : List RegionLabels) (free : Option (List FreeSpace))
+    (place : ℕ) (region : Region) (space : Namespace) : Type 0 where
   pub within : place < length regions
   pub is : (d : RegionLabels) → (slice_index_or regions place d).region ≡ region
   pub can : CanStage modules regions region space
   pub is_open : IsOpenRange (platform_of regions) (loaded.labels_in modules) region space
   pub ordered : AreOrdered (map region_in regions)
-  pub all_free : AllFree modules regions free
-  pub spare : (e : FreeSpace) → 0 < (slice_index_or free place e).spare
+  pub all_free : IsKnownFree modules regions free
+  pub spare : IfSome free (λ spaces. (e : FreeSpace) → 0 < (slice_index_or spaces place e).spare)
 
 -- what holds of the region with an index
 abbrev pub OfRegion : StoredSets → ℕ → (Region → Type 0) → Type 0

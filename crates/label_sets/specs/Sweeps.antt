@@ -1,5 +1,5 @@
 -- What a sweep of a module frees: its junk, and its dead labels.
-use Rattle.std.specs.Prelude.{◌≡◌, ◌≢◌, ℕ, zero, suc, ◌<◌, ◌&&◌, ◌++◌, Bool, false, true, List, [], ◌∷◌, Some}
+use Rattle.std.specs.Prelude.{◌≡◌, ◌≢◌, ℕ, zero, suc, ◌<◌, ◌&&◌, ◌++◌, Bool, false, true, List, [], ◌∷◌, Option, Some}
 use Rattle.std.specs.Prelude.{if◌then◌else◌, is_some, length, map, slice_index_or}
 use Rattle.std.specs.List.{All}
 use Rattle.std.specs.Option.{option_map_or}
@@ -19,7 +19,7 @@ use Rattle.region_sets.specs.Regions.{IsOver}
 use Rattle.region_changes.specs.Changes.{dimm_at}
 use Rattle.module_flips.specs.Flips.{HasLabelsInUse, IsOwn, is_used_in}
 use Rattle.module_flips.specs.Together.{free_slots}
-use Rattle.label_sets.specs.Kept.{AllFree, HasFewMembers}
+use Rattle.label_sets.specs.Kept.{HasFewMembers, IsKnownFree}
 use Rattle.label_sets.specs.Room.{HasRoom, HasSlotsWithin}
 use Rattle.label_sets.specs.Sets.{StoredSets, labels_in, platform_in, state_in}
 
@@ -76,6 +76,6 @@ pub record IsSweptTo (modules : List LoadedModule) (regions : List RegionLabels)
   pub in_use : All HasLabelsInUse now
   pub over : All (IsOver now) regions_now
   pub within : (most : ℕ) → All (HasSlotsWithin most) modules → All (HasSlotsWithin most) now
-  pub free : (free : List FreeSpace) → AllFree modules regions free → AllFree now regions_now free
+  pub free : (free : Option (List FreeSpace)) → IsKnownFree modules regions free → IsKnownFree now regions_now free
   pub few : All HasFewMembers regions → All HasFewMembers regions_now
-  pub room : (free : List FreeSpace) → HasRoom regions free → HasRoom regions_now free
+  pub room : (free : Option (List FreeSpace)) → HasRoom regions free → HasRoom regions_now free

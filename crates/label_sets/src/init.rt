@@ -32,8 +32,8 @@ ghost use Rattle.label_sets.specs.Sets as sets;
 ghost use Rattle.label_sets.specs.Sweeps.{ChangesOnly};
 ghost use Rattle.label_sets.specs.Views.{area_state};
 
+use crate::free::{FreeExtents, free_in};
 use crate::load::{SetFault, load_module};
-use crate::read::free_in;
 use crate::room::most_slots;
 use crate::sets::Sets;
 use extent_alloc::Extents;
@@ -137,7 +137,7 @@ impl Sets {
             vacant,
         ) {
             Ok(lists) => {
-                self.free = lists.free;
+                self.free = FreeExtents::known(lists.free);
                 self.slots = lists.slots;
                 self.lost = lists.lost;
                 self.room = false;

@@ -2,6 +2,7 @@
 //! swept (UEFI 2.7, section 13.19).
 #![tactic(auto)]
 
+mod free;
 mod healing;
 mod init;
 mod largest;

@@ -1,13 +1,11 @@
-//! What commands look up in the state, without memory and without a list of namespaces.
+//! What commands look up in the state, without a list of namespaces.
 
-ghost use Rattle.std.specs.Prelude.{◌≡◌, ◌<◌, Some, find};
+ghost use Rattle.std.specs.Prelude.{◌≡◌, ◌<◌, IfOk, Some, find};
 ghost use Rattle.std.specs.Option.{option_copied, option_map};
-ghost use Rattle.label_table.specs.Statuses.{status};
 ghost use Rattle.region_lookups.specs.Holders.{IsHolder};
 ghost use Rattle.region_lookups.specs.Named.{named_in};
 ghost use Rattle.region_lookups.specs.Spaces.{has_name_beside, listed_spaces, shows_pending};
 ghost use Rattle.region_sets.specs.Marks.{namespace_at};
-ghost use Rattle.region_sets.specs.Statuses.{shown_status};
 ghost use Rattle.label_sets.specs.Lookups.{FitsFirst, IsKeptIn, LacksSpare, in_region, uuid_of};
 ghost use Rattle.label_sets.specs.Sets.{labels_in, platform_in};
 
@@ -16,19 +14,10 @@ use crate::sets::Sets;
 use crate::views::place_of;
 use region_lookups::{ModuleSpare, Named};
 use region_sets::RegionLabels;
-use view_types::{Namespace, Status};
+use std::alloc::{AllocError, Global};
+use view_types::Namespace;
 
 impl Sets {
-    /// The status of a region. `None` exactly where the platform has no such region.
-    pub fn status(&self, region: u16) -> Option<Status>
-        ensures { result ≡ in_region self.now region (λ r. Some (shown_status (status (labels_in self.now) r))) }
-    {
-        let Some(kept) = self.kept(region) else {
-            return None;
-        };
-        Some(region_lookups::status(&self.modules, kept))
-    }
-
     /// The namespace of a region with a uuid. `None` exactly where the platform has no such region, or the region no
     /// such namespace.
     pub fn namespace(&self, region: u16, uuid: &[u8; 16]) -> Option<Namespace>
@@ -98,15 +87,29 @@ impl Sets {
     }
 
     /// The least multiple of 2 MiB from which `len` offsets of a region are free. `None` exactly where the platform has
-    /// no such region, or they are free from none.
-    pub fn first_fit(&self, region: u16, len: u64) -> Option<u64>
+    /// no such region, or they are free from none. Where the free extents are not known it builds and keeps them.
+    pub fn first_fit(
+        &mut self,
+        alloc: Global,
+        region: u16,
+        len: u64,
+    ) -> Result<Option<u64>, AllocError>
         requires { 0 < len }
-        ensures { FitsFirst self.now region len result }
+        ensures same { self.new ≡ self.old }
+        ensures fit { IfOk result (FitsFirst self.old region len) }
     {
         let Some(place) = place_of(&self.regions, region) else {
-            return None;
+            return Ok(None);
         };
-        self.free[place].first_fit(len, ALIGNMENT)
+        match self.free.build(alloc, &self.modules, &self.regions) {
+            Ok(()) => (),
+            Err(fault) => return Err(fault),
+        }
+        match self.free.at(place) {
+            Some(free) => Ok(free.first_fit(len, ALIGNMENT)),
+            // They are built.
+            None => unreachable!(),
+        }
     }
 
     /// What is kept of the region with an index.

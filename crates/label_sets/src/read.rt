@@ -8,17 +8,17 @@ ghost use Rattle.region_sets.specs.Fates.{region_in};
 ghost use Rattle.region_sets.specs.Modules.{dimm_of};
 ghost use Rattle.region_sets.specs.Regions.{IsOver};
 ghost use Rattle.module_flips.specs.Flips.{IsSizedIn};
-ghost use Rattle.label_sets.specs.Kept.{AllFree, HasFewMembers};
+ghost use Rattle.label_sets.specs.Kept.{HasFewMembers};
 ghost use Rattle.label_sets.specs.Loads.{HasCause, IsAmong};
 ghost use Rattle.module_flips.specs.Stored.{StandsIn, stored_labels};
 ghost use Rattle.label_sets.specs.Sets.{labels_in};
 
+use crate::free::{FreeExtents, free_in};
 use crate::load::{SetFault, load_modules};
 use crate::room::most_slots;
 use crate::sets::Sets;
-use extent_alloc::Extents;
 use region_map::Platform;
-use region_sets::{LoadedModule, RegionLabels, free_extents};
+use region_sets::{LoadedModule, RegionLabels};
 use rig_trait::Rig;
 use std::alloc::{AllocError, Global};
 
@@ -41,7 +41,7 @@ pub fn read_state<R: Rig>(alloc: Global, platform: &Platform, rig: &mut R) -> Re
 {
     let modules = load_modules(alloc, rig, platform.modules.as_slice())?;
     let regions = regions_over(alloc, &modules, platform)?;
-    let free = free_in(alloc, &modules, &regions)?;
+    let free = FreeExtents::known(free_in(alloc, &modules, &regions)?);
     let most = most_slots(&modules) as usize;
     let slots = Vec::with_capacity(alloc, most)?;
     let lost = Vec::with_capacity(alloc, most)?;
@@ -65,21 +65,4 @@ fn regions_over(
         regions.push(RegionLabels::of(alloc, modules, region)?)?;
     }
     Ok(regions)
-}
-
-/// The free extents of each region.
-pub(crate) fn free_in(
-    alloc: Global,
-    modules: &[LoadedModule],
-    regions: &[RegionLabels],
-) -> Result<Vec<Extents>, AllocError>
-    requires { All (IsOver modules.now) regions.now }
-    ensures { IfOk result (λ free. AllFree modules.now regions.now free.items) }
-{
-    let mut free = Vec::new(alloc);
-    for kept in regions {
-        let spaces = kept.namespaces(alloc, modules)?;
-        free.push(free_extents(alloc, modules, regions, kept, &spaces)?)?;
-    }
-    Ok(free)
 }

@@ -1,11 +1,10 @@
 //! The memory that is taken before a change, so that no want of it can end a change half-way.
 
-ghost use Rattle.std.specs.Prelude.{◌≡◌, ◌<◌, ℕ, OnOk, length, map, slice_index_or};
+ghost use Rattle.std.specs.Prelude.{◌≡◌, OnOk, length, map};
 ghost use Rattle.std.specs.List.{All};
-ghost use Rattle.extent_alloc.specs.Free.{FreeSpace};
-ghost use Rattle.region_sets.specs.declared.region.RegionLabels.{RegionLabels};
 ghost use Rattle.region_sets.specs.Modules.{module_in};
-ghost use Rattle.label_sets.specs.Room.{HasExtentRoom, HasLabelRoom, HasSlotsWithin, without_room, without_spare};
+ghost use Rattle.label_sets.specs.Room.{HasExtentRoom, HasLabelRoom, HasSlotsWithin, HaveExtentRoom};
+ghost use Rattle.label_sets.specs.Room.{without_room, without_spare};
 
 use extent_alloc::Extents;
 use region_sets::{LoadedModule, RegionLabels};
@@ -48,8 +47,7 @@ pub(crate) fn reserve_extents(
 ) -> Result<(), AllocError>
     requires { length free.old ≡ length regions.now }
     ensures same { map without_spare free.new ≡ map without_spare free.old }
-    ensures room { OnOk result ((place : ℕ) (d : RegionLabels) (e : FreeSpace) → place < length regions.now
-        → HasExtentRoom (slice_index_or regions.now place d) (slice_index_or free.new place e)) }
+    ensures room { OnOk result (HaveExtentRoom regions.now free.new) }
 {
     for at in 0..regions.len() {
         reserve_extent(&regions[at], &mut free[at])?;

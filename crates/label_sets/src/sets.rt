@@ -7,11 +7,11 @@ ghost use Rattle.region_sets.specs.Fates.{platform_of, region_in};
 ghost use Rattle.region_sets.specs.Modules.{EachOnce};
 ghost use Rattle.region_sets.specs.Regions.{IsOver};
 ghost use Rattle.module_flips.specs.Flips.{HasLabelsInUse, IsOwn};
-ghost use Rattle.label_sets.specs.Kept.{AllFree, HasFewMembers};
+ghost use Rattle.label_sets.specs.Kept.{HasFewMembers, IsKnownFree};
 ghost use Rattle.label_sets.specs.Room.{HasSlotsWithin};
 
-use crate::room::{reserve_extents, reserve_labels};
-use extent_alloc::Extents;
+use crate::free::FreeExtents;
+use crate::room::reserve_labels;
 use region_changes::SlotLabel;
 use region_sets::{LoadedModule, RegionLabels};
 use std::alloc::AllocError;
@@ -22,8 +22,8 @@ use std::marker::Model;
 pub struct Sets {
     pub(crate) modules: Vec<LoadedModule>,
     pub(crate) regions: Vec<RegionLabels>,
-    /// The free extents of each region.
-    pub(crate) free: Vec<Extents>,
+    /// The free extents of each region, where they are known.
+    pub(crate) free: FreeExtents,
     /// The slots that one flip frees, and the labels there. They have the memory for all slots of any module.
     pub(crate) slots: Vec<u32>,
     pub(crate) lost: Vec<SlotLabel>,
@@ -49,7 +49,7 @@ impl Sets {
     pub(crate) fn of(
         modules: Vec<LoadedModule>,
         regions: Vec<RegionLabels>,
-        free: Vec<Extents>,
+        free: FreeExtents,
         slots: Vec<u32>,
         lost: Vec<SlotLabel>,
     ) -> Sets
@@ -58,7 +58,7 @@ impl Sets {
         requires in_use { All HasLabelsInUse modules.items }
         requires disjoint { IsDisjoint (platform_of regions.items) }
         requires over { All (IsOver modules.items) regions.items }
-        requires free { AllFree modules.items regions.items free.items }
+        requires free { IsKnownFree modules.items regions.items free }
         requires few { All HasFewMembers regions.items }
         requires slots { All (HasSlotsWithin (vec_capacity slots)) modules.items }
         requires lost { All (HasSlotsWithin (vec_capacity lost)) modules.items }
@@ -85,7 +85,7 @@ impl Sets {
             return Ok(());
         }
         reserve_labels(&mut self.regions)?;
-        reserve_extents(&self.regions, &mut self.free)?;
+        self.free.reserve(&self.regions)?;
         self.room = true;
         Ok(())
     }

@@ -1,8 +1,7 @@
 //! The first pass of making a namespace.
 
-ghost use Rattle.std.specs.Prelude.{◌≡◌, ◌+◌, ◌<◌, ◌^◌, IsSome, IsTrue, OnErr, OnOk, false, length, map, true};
+ghost use Rattle.std.specs.Prelude.{◌≡◌, IsSome, OnErr, OnOk, false, map, true};
 ghost use Rattle.std.specs.List.{All};
-ghost use Rattle.view_types.specs.Intervals.{AllFree, AreMaximal, is_free, without_range};
 ghost use Rattle.rig_trait.specs.Frames.{IsTold, LeavesOnly};
 ghost use Rattle.region_map.specs.Platforms.{IsSound, region_at};
 ghost use Rattle.label_table.specs.Tables.{state, with_namespace};
@@ -15,19 +14,17 @@ ghost use Rattle.module_flips.specs.Stored.{StandsIn};
 ghost use Rattle.module_flips.specs.Together.{StaysTogether};
 ghost use Rattle.namespace_staging.specs.Staged.{IsBeforeOrWith, new_space};
 ghost use Rattle.namespace_staging.specs.Staging.{IsStaged};
-ghost use Rattle.label_sets.specs.Kept as kept;
+ghost use Rattle.label_sets.specs.Kept.{IsKnownFree};
 ghost use Rattle.label_sets.specs.Staging.{CanStageAt};
 
+use crate::free::FreeExtents;
 use crate::sets::Sets;
 use crate::views::place_of;
-use extent_alloc::{Extents, Steps};
 use module_flips::AreaFailed;
 use namespace_staging::stage_labels;
 use region_map::{Platform, Region};
 use region_sets::{LoadedModule, RegionLabels};
 use rig_trait::Rig;
-use std::marker::Brand;
-use std::sync::ledger::{Blank, Ledger};
 use view_types::Namespace;
 
 impl Sets {
@@ -90,12 +87,13 @@ impl Sets {
     }
 }
 
-/// Stages a namespace in the region at a place, and takes its range out of the region's free space.
+/// Stages a namespace in the region at a place, and takes its range out of the region's free space, where that is
+/// known.
 fn stage_in<R: Rig>(
     rig: &mut R,
     modules: &mut [LoadedModule],
     regions: &mut [RegionLabels],
-    free: &mut [Extents],
+    free: &mut FreeExtents,
     place: usize,
     region: &Region,
     space: &Namespace,
@@ -106,7 +104,7 @@ fn stage_in<R: Rig>(
     ensures failed { OnErr result (state (platform_of regions.old) (labels_in modules.new)
         ≡ state (platform_of regions.old) (labels_in modules.old)) }
     ensures together { StaysTogether modules.old regions.old modules.new regions.new }
-    ensures free { kept.AllFree modules.new regions.new free.new }
+    ensures free { IsKnownFree modules.new regions.new free.new }
     ensures stands { IsTold R.Shown rig.old → All (StandsIn (R.areas rig.old)) modules.old
         → OnOk result (All (StandsIn (R.areas rig.new)) modules.new) }
     ensures any_moment { IsTold R.Shown rig.old → All (StandsIn (R.areas rig.old)) modules.old
@@ -118,34 +116,9 @@ fn stage_in<R: Rig>(
 {
     match stage_labels(rig, modules, regions, region, space) {
         Ok(()) => {
-            take_range(&mut free[place], space.offset, space.length);
+            free.take(place, space.offset, space.length);
             Ok(())
         }
         Err(failed) => Err(failed),
     }
-}
-
-/// Takes a range out of the free space of a region.
-fn take_range(free: &mut Extents, start: u64, len: u64)
-    requires some { 0 < len }
-    requires free { AllFree (is_free free.old.extents) start len }
-    requires spare { 0 < free.old.spare }
-    ensures taken { AreMaximal free.old.whole (without_range (is_free free.old.extents) start len) free.new.extents }
-    ensures whole { free.new.whole ≡ free.old.whole }
-{
-    take_range_by::<Brand>(free, start, len, Blank::new(1));
-}
-
-/// The same, with a counter of steps that nobody asks for.
-fn take_range_by<L: Ledger>(free: &mut Extents, start: u64, len: u64, blank: Blank)
-    requires name { blank.name ≡ L.name }
-    requires parts { blank.parts ≡ L.parts }
-    requires one { 0 < blank.parts }
-    requires some { 0 < len }
-    requires free { AllFree (is_free free.old.extents) start len }
-    requires spare { 0 < free.old.spare }
-    ensures taken { AreMaximal free.old.whole (without_range (is_free free.old.extents) start len) free.new.extents }
-    ensures whole { free.new.whole ≡ free.old.whole }
-{
-    free.carve(start, len, &mut Steps::<L>::new(blank));
 }

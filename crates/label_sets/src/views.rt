@@ -5,17 +5,20 @@ ghost use Rattle.std.specs.Option.{option_copied};
 ghost use Rattle.module_labels.specs.Labels.{is_ready};
 ghost use Rattle.region_map.specs.declared.platform.Region.{Region};
 ghost use Rattle.region_sets.specs.Fates.{region_in};
+ghost use Rattle.label_table.specs.Namespaces.{namespaces};
+ghost use Rattle.label_table.specs.Statuses.{RegionStatus};
 ghost use Rattle.region_sets.specs.Modules.{is_of};
+ghost use Rattle.region_sets.specs.Statuses.{shown_status, space_in};
 ghost use Rattle.label_sets.specs.Sets.{labels_in, platform_in};
-ghost use Rattle.label_sets.specs.Views.{IsPlaceOf, IsRegionView, ViewsModule, ViewsRegion, area_state, spare_at};
-ghost use Rattle.label_sets.specs.Views.{where_ready};
+ghost use Rattle.label_sets.specs.Views.{IsPlaceOf, IsRegionView, ShowsFree, ViewsModule, ViewsRegion, area_state};
+ghost use Rattle.label_sets.specs.Views.{spare_at, where_ready};
 
 use crate::sets::Sets;
 use extent_alloc::Extents;
 use module_labels::AreaKind;
-use region_sets::{LoadedModule, RegionLabels, held_labels, spare, unready_state};
+use region_sets::{LoadedModule, RegionLabels, free_extents, held_labels, spare, unready_state};
 use std::alloc::{AllocError, Global};
-use view_types::{AreaState, Extent, List, ModuleView, RegionView, Status};
+use view_types::{AreaState, Extent, List, ModuleView, Namespace, RegionView, Status};
 
 impl Sets {
     /// The region with an index. `None` exactly where the platform has none.
@@ -37,6 +40,7 @@ impl Sets {
         let kept = &self.regions[place];
         let spaces = kept.namespaces(alloc, &self.modules)?;
         let status = kept.status(&self.modules, &spaces);
+        let free = self.free_at(alloc, place, status, &spaces)?;
         Ok(RegionView {
             index: kept.region.index,
             spa: kept.region.spa,
@@ -45,8 +49,32 @@ impl Sets {
             cookie: kept.region.cookie,
             status,
             namespaces: List::from_vec(spaces),
-            free: listed_free(alloc, status, &self.free[place])?,
+            free,
         })
+    }
+
+    /// The free extents of the region at a place, which has this status and these namespaces, as they are shown. Where
+    /// they are not known they are built for this call alone.
+    fn free_at(
+        &self,
+        alloc: Global,
+        place: usize,
+        status: Status,
+        spaces: &[Namespace],
+    ) -> Result<List<Extent>, AllocError>
+        requires place { place < length self.now.regions }
+        requires spaces { (d : Region) → map space_in spaces.now
+            ≡ namespaces (labels_in self.now) (slice_index_or self.now.regions place d) }
+        ensures { (d : Region) (told : RegionStatus) → status ≡ shown_status told
+            → IfOk result (ShowsFree (platform_in self.now) (labels_in self.now)
+            (slice_index_or self.now.regions place d) told) }
+    {
+        if let Some(free) = self.free.at(place) {
+            return listed_free(alloc, status, free);
+        }
+        let kept = &self.regions[place];
+        let free = free_extents(alloc, &self.modules, &self.regions, kept, spaces)?;
+        listed_free(alloc, status, &free)
     }
 
     /// The module with a device handle. `None` exactly where the platform has none.

@@ -2,5 +2,4 @@ pub mod Ordered
 pub mod Counted
 pub mod Neighbours
 pub mod Standing
-pub mod Unready
 pub mod Pendings

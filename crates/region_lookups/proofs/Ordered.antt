@@ -16,12 +16,6 @@ use Rattle.region_sets.specs.Statuses.{space_in}
 use Rattle.region_lookups.specs.Spaces.{is_before, listed_spaces}
 use Rattle.region_lookups.specs.Tallies.{IsFirst, IsFirstSuch}
 
-pub not-after : (a b : Namespace) → is_before a b ≡ true → is_before b a ≡ false
-not-after a b before = elim (both (is_before b a)) [
-  | inr n ↦ n
-  | inl e ↦ before-asym (space_in a) (space_in b) before e
-]
-
 pub not-itself : (a : Namespace) → is_before a a ≡ false
 not-itself a = elim (both (is_before a a)) [
   | inr n ↦ n

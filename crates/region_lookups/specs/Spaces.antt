@@ -1,5 +1,5 @@
 -- The namespaces of a region that are looked for.
-use Rattle.std.specs.Prelude.{ℕ, ◌&&◌, Bool, true, not, List, filter, map}
+use Rattle.std.specs.Prelude.{ℕ, ◌&&◌, Bool, not, List, map}
 use Rattle.std.specs.Ordering.{is_lt}
 use Rattle.std.specs.Str.{bytes_eq}
 use Rattle.view_types.specs.declared.namespaces.Namespace.{Namespace}
@@ -10,7 +10,7 @@ use Rattle.label_table.specs.Namespaces.{namespaces, space_cmp}
 use Rattle.region_sets.specs.Marks.{listed_in}
 use Rattle.region_sets.specs.Statuses.{space_in}
 use Rattle.region_lookups.specs.declared.tallies.Sought.{Sought}
-use Rattle.region_lookups.specs.declared.tallies.Sought.TheVariants.{After, All, Named, NamedBeside, Pending}
+use Rattle.region_lookups.specs.declared.tallies.Sought.TheVariants.{Named, NamedBeside, Pending}
 
 -- the namespaces of a region as they are listed, by offset and then by uuid
 abbrev pub listed_spaces : Labels → Region → List Namespace
@@ -31,13 +31,7 @@ shows_pending space = space.pending
 abbrev pub is_before : Namespace → Namespace → Bool
 is_before a b = is_lt (space_cmp (space_in a) (space_in b))
 
--- the namespaces behind one
-abbrev pub behind : Namespace → List Namespace → List Namespace
-behind space spaces = filter (is_before space) spaces
-
 abbrev pub is_sought : Sought → Namespace → Bool
-is_sought All space = true
 is_sought (Named name) space = has_name name space
 is_sought (NamedBeside name uuid) space = has_name_beside name uuid space
 is_sought Pending space = shows_pending space
-is_sought (After last) space = is_before last space

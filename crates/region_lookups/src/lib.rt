@@ -2,19 +2,16 @@
 //! namespaces (UEFI 2.7, section 13.19).
 #![tactic(auto)]
 
-mod clashes;
 mod holders;
 mod named;
 mod pending;
 mod positions;
-mod statuses;
 mod tallies;
 
 pub use holders::holder_of;
 pub use named::{Named, namespaces_named, other_named};
 pub use pending::first_pending;
 pub use positions::{ModuleSpare, first_without_spare, free_slots_at, spare_at};
-pub use statuses::status;
 
 #[cfg(test)]
 mod tests;

@@ -17,13 +17,10 @@ use view_types::Namespace;
 /// Which namespaces of a region are looked for.
 #[derive(Clone, Copy)]
 pub(crate) enum Sought {
-    All,
     Named { name: [u8; 64] },
     /// Those with this name, but the one with this uuid.
     NamedBeside { name: [u8; 64], uuid: [u8; 16] },
     Pending,
-    /// Those that stand behind this one, by offset and then by uuid.
-    After { last: Namespace },
 }
 
 /// The number of namespaces that are looked for, and the first of them by offset and then by uuid.
@@ -111,11 +108,9 @@ impl Sought {
         ensures { result ≡ is_sought self.now space.now }
     {
         match self {
-            Sought::All => true,
             Sought::Named { name } => has_name(name, space),
             Sought::NamedBeside { name, uuid } => has_name(name, space) && *uuid != space.uuid,
             Sought::Pending => space.pending,
-            Sought::After { last } => is_before(last, space),
         }
     }
 }

@@ -12,7 +12,7 @@ use std::alloc::{AllocError, Global};
 use std::process::Abort;
 use std::test::Fail;
 use test_areas::{BlockFields, LABEL, LabelFields, name};
-use view_types::{List, Namespace, Status};
+use view_types::{List, Namespace};
 
 const MIB: u64 = 0x10_0000;
 
@@ -266,32 +266,6 @@ fn slots(rt: HostRuntime) -> Result<(), Fail> {
         (15, short(0, 0x101, 14)),
     ] {
         assert_eq!(rt; first_without_spare(&modules, &regions, kept, least), want);
-    }
-    Ok(())
-}
-
-/// Namespaces that touch, and some that overlap.
-#[test]
-fn clashes(rt: HostRuntime) -> Result<(), Fail> {
-    let alloc = rt.alloc();
-    let clash = Status::Clash {
-        first: uuid(0x13),
-        second: uuid(0x14),
-    };
-    for (offset, want) in [(4 * MIB, Status::Ready), (3 * MIB, clash)] {
-        let first = [
-            label(0x14, 0, offset),
-            label(0x13, 0, 2 * MIB),
-            label(0x15, 0, 0),
-        ];
-        let second = [
-            label(0x13, 1, 2 * MIB),
-            label(0x14, 1, offset),
-            label(0x15, 1, 0),
-        ];
-        let modules = modules(alloc, &first, &second, &[])?;
-        let kept = kept(alloc, &modules)?;
-        assert_eq!(rt; status(&modules, &kept), want);
     }
     Ok(())
 }

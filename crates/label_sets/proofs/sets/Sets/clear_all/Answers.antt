@@ -1,4 +1,4 @@
-use Rattle.std.proofs.Common.{◌≡◌, List, length, map, Some, true, sym, ap, subst, ◌∙◌, refl}
+use Rattle.std.proofs.Common.{◌≡◌, List, map, Some, sym, ap, subst, ◌∙◌}
 use Rattle.std.specs.List.{All, AllZip, Contains}
 use Rattle.std.specs.Option.{option_copied}
 use Rattle.std.specs.Prelude.{vec_capacity}
@@ -12,21 +12,19 @@ use Rattle.region_map.proofs.Disjoint.{usable_region}
 use Rattle.label_table.proofs.StatusLaws.{ready-parts}
 use Rattle.region_changes.specs.Rooms.{KeepsRegion}
 use Rattle.region_sets.specs.declared.modules.LoadedModule.{LoadedModule}
-use Rattle.region_sets.specs.declared.region.RegionLabels.{RegionLabels}
 use Rattle.region_sets.specs.Fates.{platform_of, region_in, with_regions}
 use Rattle.region_sets.specs.Modules.{dimm_of, labels_in}
-use Rattle.region_sets.specs.Regions.{IsOver}
 use Rattle.module_flips.specs.Stops.{LeftIn}
 use Rattle.module_flips.specs.Stored.{StandsIn}
 use Rattle.module_flips.specs.Together.{IsTogether}
 use Rattle.namespace_healing.specs.Healing.{CanHeal}
 use Rattle.namespace_healing.specs.Passes.{room_in}
-use Rattle.label_sets.specs.Kept.{AllFree, HasFewMembers, shown}
+use Rattle.label_sets.specs.Kept.{HasFewMembers, IsKnownFree, shown}
 use Rattle.label_sets.specs.Room.{HasRoom, HasSlotsWithin}
 use Rattle.label_sets.specs.Sets.{StoredSets, platform_in}
 use Rattle.label_sets.specs.Healing.{CanHealIn}
 use Rattle.label_sets.proofs.EntryCounts.{counts-at, room-kept}
-use Rattle.label_sets.proofs.FreeAfter.{free-kept}
+use Rattle.label_sets.proofs.FreeAfter.{known-kept}
 use Rattle.label_sets.proofs.Stageable.{one-size-of, region-listed}
 use Rattle.label_sets.proofs.Written.{back-is, few-still, same-count, slots-still}
 use Rattle.label_sets.proofs.sets.Sets.clear_all.Goals as goal
@@ -74,18 +72,18 @@ invariant_of-self g c =
     (subst (λ ys. table (platform_of ys) (labels_in now) ≡ table (platform_of ys) (labels_in c.deref_mut.result.now)) c.deref_mut-in-Some.ensures.value did.table) in
     let rooms : AllZip (KeepsRegion room_in) rs.items regions = subst (λ ys. AllZip (KeepsRegion room_in) ys regions) c.deref_mut-in-Some.ensures.value did.room in
     let counts = counts-at ms.items now (did.counts ∙ ap (map _) c.deref_mut.ensures.value) (did.together.dimms ∙ ap (map dimm_of) c.deref_mut.ensures.value) in
-    let free : AllFree now regions fs.items = free-kept ms.items rs.items fs.items kept.free kept.disjoint now regions same_regions same_table in
+    let free : IsKnownFree now regions fs = known-kept ms.items rs.items kept.disjoint now regions same_regions fs kept.free same_table in
     record {
       once = all.once;
       own = all.own;
       in_use = all.in_use;
       disjoint = all.disjoint;
       over = all.over;
-      free = subst (λ xs. AllFree xs (with_items rs regions).items fs.items) m (subst (λ ys. AllFree now ys fs.items) r free);
+      free = subst (λ xs. IsKnownFree xs (with_items rs regions).items fs) m (subst (λ ys. IsKnownFree now ys fs) r free);
       few = subst (All HasFewMembers) r (few-still regions rs.items same_regions kept.few);
       slots = subst (All (HasSlotsWithin (vec_capacity c.self.inside.slots))) m (slots-still _ now ms.items (did.together.slots ∙ ap (map _) c.deref_mut.ensures.value) kept.slots);
       lost = subst (All (HasSlotsWithin (vec_capacity c.self.inside.lost))) m (slots-still _ now ms.items (did.together.slots ∙ ap (map _) c.deref_mut.ensures.value) kept.lost);
-      room = λ has. subst (λ ys. HasRoom ys fs.items) r (room-kept ms.items now rs.items regions fs.items (kept.room has) same_regions kept.over did.together.together.over rooms counts);
+      room = λ has. subst (λ ys. HasRoom ys fs) r (room-kept ms.items now rs.items regions fs (kept.room has) same_regions kept.over did.together.together.over rooms counts);
     }
 
 pub returns-clause-stands : goal.returns-clause-stands

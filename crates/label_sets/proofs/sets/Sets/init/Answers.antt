@@ -1,4 +1,4 @@
-use Rattle.std.proofs.Common.{◌≡◌, ◌≢◌, ◌⊎◌, inl, inr, ◌<◌, ◌+◌, Bool, true, false, List, length, get_or, map, Option, Some, refl, sym, ap, subst, ◌∙◌}
+use Rattle.std.proofs.Common.{◌≡◌, ◌≢◌, ◌<◌, List, length, get_or, map, Some, sym, ap, subst, ◌∙◌}
 use Rattle.std.specs.Prelude.{vec_capacity}
 use Rattle.std.specs.FinMap.{get}
 use Rattle.std.specs.List.{All}
@@ -7,7 +7,6 @@ use Rattle.std.proofs.lemmas.Bool.{false≢true}
 use Rattle.std.proofs.lemmas.List.{with_items_is}
 use Rattle.rig_trait.specs.Areas.{Areas}
 use Rattle.rig_trait.specs.Frames.{LeavesOnly, Reads}
-use Rattle.view_types.specs.declared.states.AreaState.{AreaState}
 use Rattle.module_labels.specs.declared.kind.AreaKind.TheVariants as kind
 use Rattle.module_labels.specs.Labels.{IsBounded, Labels}
 use Rattle.label_area.specs.Modules.{area_kind}
@@ -15,10 +14,9 @@ use Rattle.label_area.specs.VacantAreas.{IsVacantArea, IsVacantOf}
 use Rattle.label_table.specs.Belonging.{IsDisjoint}
 use Rattle.label_table.specs.Settling.{IsInitialised}
 use Rattle.label_table.specs.Tables.{state}
-use Rattle.region_map.specs.declared.platform.Platform.{Platform}
 use Rattle.region_sets.specs.declared.modules.LoadedModule.{LoadedModule}
 use Rattle.region_sets.specs.declared.modules.ModuleArea.TheVariants.{Uninit}
-use Rattle.region_sets.specs.Fates.{platform_of, region_in, with_regions}
+use Rattle.region_sets.specs.Fates.{platform_of}
 use Rattle.region_sets.specs.Modules.{EachOnce, dimm_of, size_in}
 use Rattle.region_sets.specs.Modules as modules
 use Rattle.region_sets.specs.Regions.{IsOver}
@@ -26,9 +24,9 @@ use Rattle.module_flips.specs.Flips.{HasLabelsInUse, IsOwn}
 use Rattle.module_flips.specs.Stored.{StandsIn}
 use Rattle.module_labels.specs.Flips.{with_module}
 use Rattle.module_flips.specs.Stops.{IsOneOf, LeftIn}
-use Rattle.label_sets.specs.Init.{IsInitialisedTo, initialised_state, slots_at, slots_by_size, state_at, vacant_module}
-use Rattle.label_sets.specs.Kept.{AllFree, HasFewMembers}
-use Rattle.label_sets.specs.Room.{HasRoom, HasSlotsWithin}
+use Rattle.label_sets.specs.Init.{IsInitialisedTo, initialised_state, slots_at, state_at, vacant_module}
+use Rattle.label_sets.specs.Kept.{AllFree, IsKnownFree}
+use Rattle.label_sets.specs.Room.{HasSlotsWithin}
 use Rattle.label_sets.specs.Sets.{StoredSets, labels_in, platform_in, state_in}
 use Rattle.label_sets.specs.Sweeps.{ChangesOnly}
 use Rattle.label_sets.specs.Views.{area_state}
@@ -83,7 +81,8 @@ invariant_of-self g c =
       in_use = subst (All HasLabelsInUse) m to.in_use;
       disjoint = kept.disjoint;
       over = subst (λ ms. All (IsOver ms) c.self.inside.regions.items) m (subst (All (IsOver new)) c.deref-2.ensures.value to.over);
-      free = subst (λ ms. AllFree ms c.self.inside.regions.items c.in-Ok-init_at.lists.free.items) m (subst (λ rs. AllFree new rs c.in-Ok-init_at.lists.free.items) c.deref-2.ensures.value c.in-Ok-init_at.ensures.free);
+      free = subst (IsKnownFree (with_items c.self.inside.modules new).items c.self.inside.regions.items) (sym c.known.ensures)
+          (subst (λ ms. AllFree ms c.self.inside.regions.items c.in-Ok-init_at.lists.free.items) m (subst (λ rs. AllFree new rs c.in-Ok-init_at.lists.free.items) c.deref-2.ensures.value c.in-Ok-init_at.ensures.free));
       few = kept.few;
       slots = subst (All (HasSlotsWithin (vec_capacity c.in-Ok-init_at.lists.slots))) m c.in-Ok-init_at.ensures.slots;
       lost = subst (All (HasSlotsWithin (vec_capacity c.in-Ok-init_at.lists.lost))) m c.in-Ok-init_at.ensures.lost;
@@ -102,7 +101,7 @@ invariant_of-self-in-Err-init_at g c =
       in_use = subst (All HasLabelsInUse) m kept.in_use;
       disjoint = kept.disjoint;
       over = subst (λ ms. All (IsOver ms) c.self.inside.regions.items) m kept.over;
-      free = subst (λ ms. AllFree ms c.self.inside.regions.items c.self.inside.free.items) m kept.free;
+      free = subst (λ ms. IsKnownFree ms c.self.inside.regions.items c.self.inside.free) m kept.free;
       few = kept.few;
       slots = subst (All (HasSlotsWithin (vec_capacity c.self.inside.slots))) m kept.slots;
       lost = subst (All (HasSlotsWithin (vec_capacity c.self.inside.lost))) m kept.lost;

@@ -1,18 +1,15 @@
-use Rattle.std.proofs.Common.{◌≡◌, List, length, map, Some, true, sym, ap, subst, ◌∙◌, refl}
+use Rattle.std.proofs.Common.{◌≡◌, List, map, Some, sym, ap, subst, ◌∙◌}
 use Rattle.std.specs.List.{All}
 use Rattle.std.specs.Option.{option_copied}
 use Rattle.std.specs.Result.{OnOk}
 use Rattle.std.specs.Vec.{with_items}
-use Rattle.extent_alloc.specs.Free.{FreeSpace}
 use Rattle.region_map.specs.declared.platform.Region.{Region}
 use Rattle.region_map.specs.Platforms.{region_at}
-use Rattle.region_sets.specs.declared.modules.LoadedModule.{LoadedModule}
-use Rattle.region_sets.specs.declared.region.RegionLabels.{RegionLabels}
 use Rattle.region_sets.specs.Fates.{platform_of, region_in, with_regions}
 use Rattle.region_sets.specs.Modules.{dimm_of}
-use Rattle.module_flips.specs.Together.{IsTogether, StaysTogether}
+use Rattle.module_flips.specs.Together.{IsTogether}
 use Rattle.module_flips.specs.Stored.{StandsIn}
-use Rattle.label_sets.specs.Kept.{AllFree, shown}
+use Rattle.label_sets.specs.Kept.{IsKnownFree, shown}
 use Rattle.label_sets.specs.Sets.{StoredSets, platform_in}
 use Rattle.label_sets.specs.Staging.{CanStageAt, CanStageIn}
 use Rattle.label_sets.specs.Views.{IsPlaceOf}
@@ -25,7 +22,7 @@ stage_in-requires-clause-stage g c =
     let kept = c.self.invariant in
     let ms = c.self.inside.modules.items in
     let rs = c.self.inside.regions.items in
-    let fs = c.self.inside.free.items in
+    let fs = c.self.inside.free in
     let r = c.in-Some-Some.found.now in
     let same : c.args.platform.now.regions ≡ map region_in rs = c.requires.platform ∙ sym (ap (λ (s : StoredSets). s.regions) c.self.view_is) in
     let there : region_at c.args.platform.now c.args.region ≡ Some r = sym c.region.ensures ∙ ap option_copied c.in-Some-Some.is-0 in
@@ -39,9 +36,8 @@ stage_in-requires-clause-stage g c =
     let stage : CanStageAt ms rs fs c.in-Some-Some.place r c.args.space.now =
     can-stage c.args.platform.now c.requires.sound ms rs same c.args.region c.in-Some-Some.place r found is_place fs c.args.space.now together kept.free (kept.room (ap (λ (s : StoredSets). s.room) c.self.view_is ∙ c.requires.room))
     can.ready can.fresh can.free can.is_open can.long in
-    subst (λ xs. CanStageAt xs c.deref_mut-2.result.now c.deref_mut-3.result.now c.in-Some-Some.place r c.args.space.now) (sym c.deref_mut.ensures.value)
-    (subst (λ ys. CanStageAt ms ys c.deref_mut-3.result.now c.in-Some-Some.place r c.args.space.now) (sym c.deref_mut-2.ensures.value)
-    (subst (λ zs. CanStageAt ms rs zs c.in-Some-Some.place r c.args.space.now) (sym c.deref_mut-3.ensures.value) stage))
+    subst (λ xs. CanStageAt xs c.deref_mut-2.result.now fs c.in-Some-Some.place r c.args.space.now) (sym c.deref_mut.ensures.value)
+    (subst (λ ys. CanStageAt ms ys fs c.in-Some-Some.place r c.args.space.now) (sym c.deref_mut-2.ensures.value) stage)
 
 pub invariant_of-self : goal.invariant_of-self
 invariant_of-self g c =
@@ -52,9 +48,6 @@ invariant_of-self g c =
     let together = c.stage_in.ensures.together in
     let m : c.stage_in.new.modules ≡ (with_items ms c.stage_in.new.modules).items = sym (back-is ms c.stage_in.new.modules c.deref_mut.result.now c.deref_mut.ensures.value (same-count dimm_of _ _ together.dimms)) in
     let r : c.stage_in.new.regions ≡ (with_items rs c.stage_in.new.regions).items = sym (back-is rs c.stage_in.new.regions c.deref_mut-2.result.now c.deref_mut-2.ensures.value (same-count region_in _ _ together.same_regions)) in
-    let each : length c.stage_in.new.free ≡ length c.deref_mut-3.result.now =
-    c.stage_in.ensures.free.each ∙ same-count region_in _ _ together.same_regions ∙ ap length c.deref_mut-2.ensures.value ∙ sym kept.free.each ∙ ap length (sym c.deref_mut-3.ensures.value) in
-    let f : c.stage_in.new.free ≡ (with_items fs c.stage_in.new.free).items = sym (back-is fs c.stage_in.new.free c.deref_mut-3.result.now c.deref_mut-3.ensures.value each) in
     let all : IsTogether (with_items ms c.stage_in.new.modules).items (with_items rs c.stage_in.new.regions).items = subst (λ xs. IsTogether xs (with_items rs c.stage_in.new.regions).items) m (subst (IsTogether c.stage_in.new.modules) r together.together) in
     record {
       once = all.once;
@@ -62,8 +55,8 @@ invariant_of-self g c =
       in_use = all.in_use;
       disjoint = all.disjoint;
       over = all.over;
-      free = subst (λ xs. AllFree xs (with_items rs c.stage_in.new.regions).items (with_items fs c.stage_in.new.free).items) m
-          (subst (λ ys. AllFree c.stage_in.new.modules ys (with_items fs c.stage_in.new.free).items) r (subst (AllFree c.stage_in.new.modules c.stage_in.new.regions) f c.stage_in.ensures.free));
+      free = subst (λ xs. IsKnownFree xs (with_items rs c.stage_in.new.regions).items c.stage_in.new.free) m
+          (subst (λ ys. IsKnownFree c.stage_in.new.modules ys c.stage_in.new.free) r c.stage_in.ensures.free);
       few = few-still _ rs.items (ap (map region_in) (sym r) ∙ together.same_regions ∙ ap (map region_in) c.deref_mut-2.ensures.value) kept.few;
       slots = slots-still _ _ ms.items (ap (map _) (sym m) ∙ together.slots ∙ ap (map _) c.deref_mut.ensures.value) kept.slots;
       lost = slots-still _ _ ms.items (ap (map _) (sym m) ∙ together.slots ∙ ap (map _) c.deref_mut.ensures.value) kept.lost;

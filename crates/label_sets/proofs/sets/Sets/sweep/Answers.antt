@@ -10,7 +10,7 @@ use Rattle.region_sets.specs.Fates.{platform_of, with_regions}
 use Rattle.region_sets.specs.Modules.{EachOnce}
 use Rattle.region_sets.specs.Regions.{IsOver}
 use Rattle.module_flips.specs.Flips.{HasLabelsInUse, IsOwn}
-use Rattle.label_sets.specs.Kept.{AllFree, HasFewMembers}
+use Rattle.label_sets.specs.Kept.{HasFewMembers, IsKnownFree}
 use Rattle.module_flips.specs.Stored.{StandsIn}
 use Rattle.label_sets.specs.Room.{HasRoom, HasSlotsWithin}
 use Rattle.label_sets.specs.Sets.{StoredSets}
@@ -32,11 +32,11 @@ invariant_of-self g c =
       in_use = subst (All HasLabelsInUse) m kept.in_use;
       disjoint = subst (λ rs. IsDisjoint (platform_of rs)) r kept.disjoint;
       over = subst (λ ms. All (IsOver ms) (with_items c.self.inside.regions c.sweep_at.new.regions).items) m (subst (λ rs. All (IsOver c.self.inside.modules.items) rs) r kept.over);
-      free = subst (λ ms. AllFree ms (with_items c.self.inside.regions c.sweep_at.new.regions).items c.self.inside.free.items) m (subst (λ rs. AllFree c.self.inside.modules.items rs c.self.inside.free.items) r kept.free);
+      free = subst (λ ms. IsKnownFree ms (with_items c.self.inside.regions c.sweep_at.new.regions).items c.self.inside.free) m (subst (λ rs. IsKnownFree c.self.inside.modules.items rs c.self.inside.free) r kept.free);
       few = subst (All HasFewMembers) r kept.few;
       slots = subst (All (HasSlotsWithin (vec_capacity c.sweep_at.new.slots))) m (within-more (vec_capacity c.self.inside.slots) (vec_capacity c.sweep_at.new.slots) c.self.inside.modules.items c.sweep_at.ensures.slots kept.slots);
       lost = subst (All (HasSlotsWithin (vec_capacity c.sweep_at.new.lost))) m (within-more (vec_capacity c.self.inside.lost) (vec_capacity c.sweep_at.new.lost) c.self.inside.modules.items c.sweep_at.ensures.lost kept.lost);
-      room = λ has. subst (λ rs. HasRoom rs c.self.inside.free.items) r (kept.room has);
+      room = λ has. subst (λ rs. HasRoom rs c.self.inside.free) r (kept.room has);
     }
 
 pub returns-in-Err-clause-writes_only : goal.returns-in-Err-clause-writes_only
@@ -66,11 +66,11 @@ invariant_of-self-2 g c =
       in_use = to.in_use;
       disjoint = subst (λ rs. IsDisjoint (with_regions rs)) (sym to.same_regions) kept.disjoint;
       over = to.over;
-      free = to.free c.self.inside.free.items kept.free;
+      free = to.free c.self.inside.free kept.free;
       few = to.few kept.few;
       slots = within-more (vec_capacity c.self.inside.slots) (vec_capacity c.sweep_at.new.slots) (with_items c.self.inside.modules c.sweep_at.new.modules).items c.sweep_at.ensures.slots (to.within (vec_capacity c.self.inside.slots) kept.slots);
       lost = within-more (vec_capacity c.self.inside.lost) (vec_capacity c.sweep_at.new.lost) (with_items c.self.inside.modules c.sweep_at.new.modules).items c.sweep_at.ensures.lost (to.within (vec_capacity c.self.inside.lost) kept.lost);
-      room = λ has. to.room c.self.inside.free.items (kept.room has);
+      room = λ has. to.room c.self.inside.free (kept.room has);
     }
 
 pub returns-clause-swept : goal.returns-clause-swept

@@ -1,15 +1,16 @@
-use Rattle.std.proofs.Common.{◌<◌, length, get_or, map, refl, sym, ap, subst, ◌∙◌, arith}
-use Rattle.extent_alloc.specs.Free.{FreeSpace}
+use Rattle.std.proofs.Common.{◌≡◌, List, map, refl, sym, ap, subst, ◌∙◌}
 use Rattle.label_table.specs.Namespaces.{namespaces}
 use Rattle.label_table.specs.Statuses.{status}
-use Rattle.region_sets.specs.declared.region.RegionLabels.{RegionLabels}
-use Rattle.region_sets.specs.Fates.{platform_of}
+use Rattle.region_sets.specs.declared.modules.LoadedModule.{LoadedModule}
 use Rattle.region_sets.specs.Marks.{listed_in}
 use Rattle.region_sets.specs.Modules as modules
 use Rattle.region_sets.specs.Statuses.{shown_status, space_in}
 use Rattle.region_sets.proofs.Sorted.{unlisted}
-use Rattle.label_sets.specs.Kept.{IsFree}
-use Rattle.label_sets.proofs.Viewed.{place-inside, region-viewed, shows-free}
+use Rattle.region_map.specs.declared.platform.Region.{Region}
+use Rattle.region_sets.specs.Fates.{platform_of}
+use Rattle.label_sets.specs.Sets.{StoredSets, labels_in, platform_in}
+use Rattle.label_sets.specs.Views.{ShowsFree}
+use Rattle.label_sets.proofs.Viewed.{place-inside, region-there, region-viewed}
 use Rattle.label_sets.proofs.sets.Sets.view_at.Goals as goal
 
 pub status-status-requires-clause-spaces : goal.status-status-requires-clause-spaces
@@ -19,21 +20,32 @@ status-status-requires-clause-spaces c =
     let same = c.deref.ensures.value ∙ sym c.deref-2.ensures.value in
     ap (map space_in) (c.deref-3.ensures.value ∙ c.in_ok-spaces.ensures) ∙ unlisted L r (namespaces L r) ∙ (λ i. namespaces (modules.labels_in (same i)) r)
 
+pub free_at-requires-clause-spaces : goal.free_at-requires-clause-spaces
+free_at-requires-clause-spaces c = λ d.
+    let sets = c.args.self.now in
+    let kept = c.index-kept.result.now in
+    let L = modules.labels_in c.deref.result.now in
+    let lt = place-inside c.self.inside sets c.self.view_is c.args.place c.requires in
+    let modules_are : c.deref.result.now ≡ sets.modules = c.deref.ensures.value ∙ ap (λ (s : StoredSets). s.modules) c.self.view_is in
+    ap (map space_in) (c.deref-4.ensures.value ∙ c.in_ok-spaces.ensures) ∙ unlisted L kept.region (namespaces L kept.region)
+    ∙ ap (λ (ms : List LoadedModule). namespaces (modules.labels_in ms) kept.region) modules_are
+    ∙ ap (namespaces (modules.labels_in sets.modules)) (sym (region-there c.self.inside sets c.self.view_is c.args.place kept c.index-kept.ensures lt d))
+
 pub returns : goal.returns
-returns c =
+returns c = λ d.
     let inside = c.self.inside in
+    let sets = c.args.self.now in
     let kept = c.index-kept.result.now in
     let r = kept.region in
     let P = platform_of inside.regions.items in
     let L = modules.labels_in inside.modules.items in
-    let lt = place-inside inside c.args.self.now c.self.view_is c.args.place c.requires in
-    let space = c.self.invariant.free in
-    let within : c.args.place < length inside.free.items = omega (arith, space.each, lt) in
-    let free_is : IsFree inside.modules.items inside.regions.items kept c.index.result.now =
-    subst (λ (k : RegionLabels). IsFree inside.modules.items inside.regions.items k c.index.result.now) (sym c.index-kept.ensures)
-    (subst (λ (f : FreeSpace). IsFree inside.modules.items inside.regions.items (get_or inside.regions.items c.args.place kept) f) (sym c.index.ensures) (space.is c.args.place kept c.index.result.now lt)) in
+    let lt = place-inside inside sets c.self.view_is c.args.place c.requires in
     let status_is = c.status-status.ensures ∙ (λ i. shown_status (status (modules.labels_in (c.deref-2.ensures.value i)) r)) in
-    region-viewed inside c.args.self.now c.self.view_is c.args.place kept c.index-kept.ensures lt _ (record {
+    let free_are : ShowsFree P L r (status L r) c.in_ok-free.free =
+    subst (λ (s : StoredSets). ShowsFree (platform_in s) (labels_in s) r (status L r) c.in_ok-free.free) (sym c.self.view_is)
+    (subst (λ (q : Region). ShowsFree (platform_in sets) (labels_in sets) q (status L r) c.in_ok-free.free) (region-there inside sets c.self.view_is c.args.place kept c.index-kept.ensures lt d)
+    (c.in_ok-free.ensures d (status L r) status_is)) in
+    region-viewed inside sets c.self.view_is c.args.place kept c.index-kept.ensures lt _ (record {
       index_is = refl;
       spa_is = refl;
       length_is = refl;
@@ -41,5 +53,5 @@ returns c =
       cookie_is = refl;
       status_is = status_is;
       namespaces_are = c.from_vec.ensures ∙ c.in_ok-spaces.ensures ∙ (λ i. map (listed_in (modules.labels_in (c.deref.ensures.value i)) r) (namespaces (modules.labels_in (c.deref.ensures.value i)) r));
-      free_are = shows-free P L r (status L r) c.status-status.result c.index.result.now.extents c.in_ok-listed_free.field-0 status_is c.in_ok-listed_free.ensures free_is.extents;
-    })
+      free_are = free_are;
+    }) d

@@ -5,7 +5,7 @@ use Rattle.region_sets.specs.Statuses.{space_in}
 use Rattle.region_sets.proofs.Sorted.{unlisted}
 use Rattle.label_sets.specs.Kept.{IsFree}
 use Rattle.label_sets.proofs.Frees.{free-more}
-use Rattle.label_sets.proofs.read.free_in.Goals as goal
+use Rattle.label_sets.proofs.free.free_in.Goals as goal
 
 pub free_extents-requires-clause-spaces : goal.free_extents-requires-clause-spaces
 free_extents-requires-clause-spaces c =
