@@ -21,7 +21,7 @@ use Rattle.table_steps.specs.Namespaces.{ambiguous_in, fitting, read_only_in, un
 use Rattle.table_steps.specs.Refusals.{by_region, first_of, no_slots, no_slots_in, not_ready_by, refused_if, region_not_ready, unhealed_in}
 use Rattle.table_steps.specs.Refusals.{unknown_region, unusable}
 use Rattle.table_steps.specs.Rename.{name_taken_beside, name_taken_in, rename_refusals}
-use Rattle.table_steps.proofs.AcceptedChanges.{have-spare, own-stands}
+use Rattle.table_steps.proofs.AcceptedChanges.{HaveSpare, own-stands}
 use Rattle.namespace_core.specs.declared.refusals.Unanswered.{Unanswered}
 use Rattle.namespace_core.specs.declared.refusals.Unanswered.TheVariants as unanswereds
 use Rattle.namespace_core.specs.Keys.{CanChange, IsChosen, IsChosenIn, IsOnly, IsRefusedBy, key_refusals, keyed}
@@ -135,12 +135,12 @@ module _ (P : Platform) (sets : StoredSets) (state : IsStateOf P sets) (index : 
         slots : by_region P index (no_slots_in P L 1) ≡ short
         slots = of-chosen P L index key space is (no_slots_in P L 1) short (slots-told 1 short all)
 
--- So a namespace that is chosen can be changed.
-pub can-change : (P : Platform) (L : Labels) (key : NameKey) (space : Namespace) (r : Region) → IsChosenIn P L key space r → no_slots_in P L 1 r ≡ None → CanChange P L space r
-can-change P L key space r is none = record {
+-- So a namespace that is chosen can be changed, where each module has a spare slot.
+pub can-change : (P : Platform) (L : Labels) (key : NameKey) (space : Namespace) (r : Region) → IsChosenIn P L key space r → HaveSpare P L 1 r → CanChange P L space r
+can-change P L key space r is spares = record {
   ready = is.ready;
   healable = is.healable;
   stands = own-stands L r key (space_in space) is.fits.only;
   writable = is.fits.writable;
-  spares = have-spare P L 1 r none;
+  spares = spares;
 }

@@ -15,3 +15,6 @@ pub mod Fitting
 pub mod KeyedRefusals
 pub mod HeldTests
 pub mod ReleaseRefusals
+pub mod Passes
+pub mod ChangedSpaces
+pub mod ChangeEnds

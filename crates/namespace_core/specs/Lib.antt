@@ -4,3 +4,4 @@ pub mod Changes
 pub mod Create
 pub mod Keys
 pub mod Releases
+pub mod Commands

@@ -5,6 +5,7 @@ mod create_refusals;
 mod creation;
 mod key_refusals;
 mod lists;
+mod recovering;
 mod refusals;
 mod release_refusals;
 mod translations;
