@@ -5,10 +5,9 @@ use Rattle.std.proofs.lemmas.Bool.{cases_eq, cases_lt}
 use Rattle.std.proofs.lemmas.List.{get_or-map, length-map}
 use Rattle.std.proofs.lemmas.List.Elements.{Contains-get_or}
 use Rattle.std.proofs.lemmas.Option.{IfSome_then}
+use Rattle.view_types.specs.declared.extents.Extent.{Extent}
 use Rattle.view_types.specs.Intervals.{AreMaximal, is_free, without_range}
 use Rattle.extent_alloc.specs.Free.{FreeSpace}
-use Rattle.module_labels.specs.Labels.{Labels}
-use Rattle.region_map.specs.declared.platform.Platform.{Platform}
 use Rattle.region_map.specs.declared.platform.Region.{Region}
 use Rattle.region_map.specs.Sound.{AreOrdered}
 use Rattle.label_table.specs.Belonging.{IsDisjoint}
@@ -60,15 +59,19 @@ module _ (ms : List LoadedModule) (rs : List RegionLabels) (free : List FreeSpac
     whole = whole ∙ ap part_size (sym (there k d lt));
   }
 
-  -- the table stayed
-  pub free-kept : table (platform_of rs) (labels_in now) ≡ table (platform_of rs) (labels_in ms) → AllFree now regions_now free
-  free-kept table_same = record {
+  -- each region keeps its free extents
+  pub free-as : ((q : Region) → Contains (platform_of rs).regions q → (extents : List Extent) → AreFreeExtents (platform_of rs) (labels_in ms) q extents → AreFreeExtents (platform_of rs) (labels_in now) q extents) → AllFree now regions_now free
+  free-as keeps = record {
     each = was.each ∙ sym each;
     is = λ k d e lt.
         let old : k < length rs = subst (λ n. k < n) each lt in
         let had : IsFree ms rs (get_or rs k d) (get_or free k e) = was.is k d e old in
-        moved k d (get_or free k e) old (extents-kept (platform_of rs) disjoint (labels_in ms) (labels_in now) table_same (get_or rs k d).region (listed k d old) (get_or free k e).extents had.extents) had.whole;
+        moved k d (get_or free k e) old (keeps (get_or rs k d).region (listed k d old) (get_or free k e).extents had.extents) had.whole;
   }
+
+  -- the table stayed
+  pub free-kept : table (platform_of rs) (labels_in now) ≡ table (platform_of rs) (labels_in ms) → AllFree now regions_now free
+  free-kept table_same = free-as (λ q in_q extents are. extents-kept (platform_of rs) disjoint (labels_in ms) (labels_in now) table_same q in_q extents are)
 
   -- the region at a place gained a namespace, whose range was taken out of its free extents
   pub free-gained : (place : ℕ) (region : Region) (new : Space) (after : List FreeSpace) → place < length rs → ((d : RegionLabels) → (get_or rs place d).region ≡ region) → AreOrdered (map region_in rs)

@@ -10,7 +10,7 @@ use Rattle.module_labels.specs.Labels.{Labels}
 use Rattle.region_map.specs.declared.platform.Platform.{Platform}
 use Rattle.region_map.specs.declared.platform.Region.{Region}
 use Rattle.region_map.specs.Platforms.{region_at}
-use Rattle.label_table.specs.Division.{AreFreeExtents, alignment, largest, part_size}
+use Rattle.label_table.specs.Division.{AreFreeExtents, alignment, part_size}
 use Rattle.label_table.proofs.Partition.{maximal-one}
 use Rattle.label_table.specs.Division.{is_common_free}
 use Rattle.extent_alloc.specs.Free.{FreeSpace}

@@ -1,5 +1,5 @@
 -- What is kept of all modules before the area of one is initialised, and what a stop leaves of them.
-use Rattle.std.proofs.Common.{◌≡◌, ◌≢◌, ◌⊎◌, inl, inr, ℕ, ◌<◌, Bool, true, false, List, length, get_or, map, Option, Some, None, Result, Ok, Err, refl, sym, ap, subst, ◌∙◌, ⊎_elim}
+use Rattle.std.proofs.Common.{◌≡◌, ◌⊎◌, inl, inr, ℕ, ◌<◌, List, length, get_or, map, Some, refl, sym, ap, subst, ◌∙◌}
 use Rattle.std.specs.Prelude.{find}
 use Rattle.std.specs.List.{All}
 use Rattle.std.specs.Option.{option_and_then, option_map}
@@ -7,21 +7,17 @@ use Rattle.std.proofs.lemmas.List.{get_or_default}
 use Rattle.rig_trait.specs.declared.shown.Shown.{Ghosts}
 use Rattle.rig_trait.specs.Areas.{Areas}
 use Rattle.rig_trait.specs.Frames.{LeavesOnly, Reads}
-use Rattle.rig_trait.specs.Records.{CrashRecord}
 use Rattle.rig_trait.proofs.Frames.{reading}
 use Rattle.rig_trait.proofs.Moments.{weakened}
-use Rattle.view_types.specs.declared.states.AreaState.{AreaState}
 use Rattle.view_types.specs.declared.states.AreaState.TheVariants as state_is
 use Rattle.module_labels.specs.Flips.{with_module}
 use Rattle.module_labels.specs.Labels.{Labels}
-use Rattle.region_map.specs.declared.platform.Platform.{Platform}
 use Rattle.label_table.specs.Settling.{IsInitialised}
 use Rattle.label_table.specs.Tables.{state}
 use Rattle.region_sets.specs.declared.modules.LoadedModule.{LoadedModule}
 use Rattle.region_sets.specs.declared.modules.ModuleArea.{ModuleArea}
 use Rattle.region_sets.specs.declared.modules.ModuleArea.TheVariants.{Missing, WrongSize, Uninit, Foreign, Ready}
-use Rattle.region_sets.specs.Modules.{EachOnce, dimm_of, is_of, module_in, size_in, size_of_area}
-use Rattle.region_sets.specs.Modules as modules
+use Rattle.region_sets.specs.Modules.{EachOnce, dimm_of, is_of, size_in, size_of_area}
 use Rattle.module_flips.specs.Stored.{StandsIn, stored_labels}
 use Rattle.module_flips.specs.Stops.{IsOneOf, LeftIn}
 use Rattle.module_flips.proofs.Standing.{stands}

@@ -1,10 +1,10 @@
 -- What is kept of all modules once the area of one is initialised.
-use Rattle.std.proofs.Common.{◌≡◌, ◌≢◌, ◌⊎◌, inl, inr, ℕ, zero, suc, ◌+◌, ◌<◌, Bool, true, false, cond, eqb, ◌++◌, ◌∷◌, [], List, length, get_or, map, set, Option, Some, None, Result, Ok, Err, refl, sym, ap, subst, ◌∙◌, eq-eqb, eqb-true, arith}
+use Rattle.std.proofs.Common.{◌≡◌, ◌⊎◌, inl, inr, ℕ, zero, suc, ◌+◌, ◌<◌, Bool, true, false, cond, eqb, ◌++◌, ◌∷◌, [], List, length, get_or, map, set, Option, Some, None, refl, sym, ap, subst, ◌∙◌, eq-eqb, eqb-true, arith}
 use Rattle.std.specs.Prelude.{◌==◌, find, unwrap_or}
 use Rattle.std.specs.FinMap.{get}
 use Rattle.std.specs.List.{All}
 use Rattle.std.specs.List.Sorted.{IsPermutation}
-use Rattle.std.specs.Option.{option_and_then, option_map, option_map_or}
+use Rattle.std.specs.Option.{option_map, option_map_or}
 use Rattle.std.proofs.lemmas.Bool.{cases_eq, cond-false, cond-true, ne_eqb}
 use Rattle.std.proofs.lemmas.List.{ext_get_or, get_or-map, get_or-set_other, get_or-set_same, get_or_default, length-map}
 use Rattle.std.proofs.lemmas.List.Folds.{list_any_at}
@@ -18,14 +18,12 @@ use Rattle.index_block.specs.declared.geometry.Geometry.{Geometry}
 use Rattle.index_block.specs.Bitmap.{is_free_in}
 use Rattle.index_block.specs.Geometry.{geometry_of}
 use Rattle.label_codec.specs.declared.label.Label.{Label}
-use Rattle.module_labels.specs.declared.kind.AreaKind.{AreaKind}
 use Rattle.module_labels.specs.declared.kind.AreaKind.TheVariants as kind
 use Rattle.module_labels.specs.Flips.{with_module}
 use Rattle.module_labels.specs.Labels.{IsBounded, Labels, Module, is_ready}
 use Rattle.label_area.specs.Blocks.{current_block}
-use Rattle.label_area.specs.Fair.{IsFair}
 use Rattle.label_area.specs.Flips.{LeftByFlip, Standing, standing_of}
-use Rattle.label_area.specs.Inits.{IsVacant, LeftByInit, initialised, layout_of, slots_of}
+use Rattle.label_area.specs.Inits.{IsVacant, LeftByInit, initialised, slots_of}
 use Rattle.label_area.specs.LoadedAreas.{LoadedArea}
 use Rattle.label_area.specs.Modules as stored
 use Rattle.label_area.specs.Modules.{area_kind}

@@ -1,34 +1,17 @@
 -- What is kept of an area that was loaded is what the area that is stored stands for.
-use Rattle.std.proofs.Common.{◌≡◌, ◌≢◌, ℕ, Bool, true, false, ◌||◌, cond, is_some, List, length, Option, Some, None, Result, Ok, Err, refl, sym, ap, subst, ◌∙◌}
+use Rattle.std.proofs.Common.{◌≡◌, ℕ, false, Result, Ok, Err, refl, sym, subst}
 use Rattle.std.specs.Prelude.{IsSome, IfOk}
-use Rattle.std.specs.FinMap.{get}
-use Rattle.std.specs.Option.{option_and_then, option_map}
 use Rattle.rig_trait.specs.declared.shown.Shown.{Ghosts}
-use Rattle.rig_trait.specs.Areas.{Areas, size_in}
+use Rattle.rig_trait.specs.Areas.{Areas}
 use Rattle.rig_trait.specs.Frames.{FailsAt}
-use Rattle.index_block.specs.declared.geometry.Geometry.{Geometry}
-use Rattle.index_block.specs.Geometry.{geometry_of}
-use Rattle.module_labels.specs.declared.kind.AreaKind.{AreaKind}
-use Rattle.module_labels.specs.declared.kind.AreaKind.TheVariants as kind
-use Rattle.label_area.specs.declared.blocks.Current.{Current}
-use Rattle.label_area.specs.declared.layouts.Layouts.{Layouts}
 use Rattle.label_area.specs.declared.load.AreaFault.{AreaFault}
 use Rattle.label_area.specs.declared.load.AreaFault.TheVariants as fault
-use Rattle.label_area.specs.Blocks.{current_block, current_in, is_block, kinds_in, seq_in}
-use Rattle.label_area.specs.Layouts.{layouts_of}
 use Rattle.label_area.specs.Faults.{is_load_failed}
 use Rattle.label_area.specs.LoadedAreas.{IsSound, LoadedArea}
 use Rattle.label_area.specs.Loads.{Loads}
-use Rattle.label_area.specs.Modules.{area_kind, live_by, module_at, module_of, slots_by, kind_by_layouts}
-use Rattle.label_area.proofs.Shown.{ready_is}
-use Rattle.region_sets.specs.declared.modules.LoadedModule.{LoadedModule}
-use Rattle.region_sets.specs.declared.modules.ModuleArea.{ModuleArea}
-use Rattle.region_sets.specs.declared.modules.ModuleArea.TheVariants.{Missing, WrongSize, Uninit, Foreign, Ready}
-use Rattle.region_sets.specs.Modules.{module_in, size_of_area, without_labels}
-use Rattle.region_sets.specs.Modules as loaded
-use Rattle.module_flips.specs.Flips.{HasLabelsInUse, IsAreaOf, IsSizedIn}
+use Rattle.module_flips.specs.Flips.{HasLabelsInUse, IsAreaOf}
 use Rattle.label_sets.specs.Loads.{HasCause, area_by}
-use Rattle.module_flips.specs.Stored.{StandsIn, StoredAs}
+use Rattle.module_flips.specs.Stored.{StoredAs}
 
 -- what was loaded stands in the areas
 pub loads-stored : (dimm : ℕ) (areas : Areas) (result : Result LoadedArea AreaFault) → Loads dimm areas result → IfOk result (λ area. area.dimm ≡ dimm) → IfOk (area_by dimm result) (StoredAs areas dimm)

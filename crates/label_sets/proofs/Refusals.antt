@@ -1,7 +1,6 @@
 -- How an area is refused that is not initialised.
-use Rattle.std.proofs.Common.{◌≡◌, ℕ, Bool, refl, sym, ap, ◌∙◌}
+use Rattle.std.proofs.Common.{◌≡◌, ℕ, refl, sym, ap, ◌∙◌}
 use Rattle.std.specs.Prelude.{if◌then◌else◌}
-use Rattle.view_types.specs.declared.states.AreaState.{AreaState}
 use Rattle.view_types.specs.declared.states.AreaState.TheVariants as state
 use Rattle.rig_trait.specs.Areas.{Areas}
 use Rattle.module_labels.specs.declared.kind.AreaKind.{AreaKind}

@@ -1,6 +1,6 @@
 -- A namespace can be staged in a Ready region of a sound platform.
-use Rattle.std.proofs.Common.{◌≡◌, ℕ, zero, suc, ◌+◌, ◌*◌, ◌-◌, ◌/◌, ◌<◌, ◌≤◌, ◌^◌, Bool, true, false, cond, eqb, ◌&&◌, List, [], ◌∷◌, length, get_or, map, Option, Some, None, refl, sym, ap, subst, ◌∙◌, arith}
-use Rattle.std.specs.Prelude.{◌==◌, find, nat_lt}
+use Rattle.std.proofs.Common.{◌≡◌, ℕ, suc, ◌+◌, ◌*◌, ◌-◌, ◌/◌, ◌<◌, ◌≤◌, ◌^◌, Bool, true, false, cond, eqb, ◌&&◌, List, [], ◌∷◌, length, get_or, map, Option, Some, None, refl, sym, ap, subst, ◌∙◌, arith}
+use Rattle.std.specs.Prelude.{◌==◌, find}
 use Rattle.std.specs.List.{All, Contains, list_all}
 use Rattle.std.proofs.Math.Nat.{mul-div_cancel_left}
 use Rattle.std.proofs.lemmas.Bool.{and_parts, ltb-true}
@@ -23,7 +23,7 @@ use Rattle.label_table.specs.Flips.{HasNone}
 use Rattle.label_table.specs.Statuses.{RegionReady, first_not_ready, status}
 use Rattle.label_table.specs.Tables.{is_member}
 use Rattle.label_table.specs.Wholes.{all_ready}
-use Rattle.label_table.proofs.StatusLaws.{IsReadyRegion, ready-parts}
+use Rattle.label_table.proofs.StatusLaws.{ready-parts}
 use Rattle.region_sets.specs.declared.modules.LoadedModule.{LoadedModule}
 use Rattle.region_sets.specs.declared.region.RegionLabels.{RegionLabels}
 use Rattle.region_sets.specs.Fates.{platform_of, region_in}

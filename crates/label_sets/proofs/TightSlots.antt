@@ -1,14 +1,13 @@
 -- A module with as many free slots as spare ones has neither junk nor dead labels.
-use Rattle.std.proofs.Common.{◌≡◌, ℕ, zero, suc, ◌+◌, ◌-◌, ◌<◌, ◌≤◌, Bool, true, false, cond, not, ◌&&◌, List, get_or, length, Option, Some, None, refl, sym, ap, subst, ◌∙◌, inl, inr, arith}
+use Rattle.std.proofs.Common.{◌≡◌, ℕ, zero, suc, ◌+◌, ◌-◌, ◌<◌, ◌≤◌, Bool, true, false, cond, not, ◌&&◌, List, get_or, Option, Some, None, refl, sym, ap, subst, ◌∙◌, inl, inr, arith}
 use Rattle.std.specs.Prelude.{is_some, nat_lt}
-use Rattle.std.proofs.lemmas.Bool.{and_parts, cases_eq, cases_lt, lt-ltb}
+use Rattle.std.proofs.lemmas.Bool.{and_parts, cases_eq, cases_lt}
 use Rattle.index_block.specs.Bitmap.{free_count, is_free_in}
 use Rattle.index_block.proofs.FreeSlots.{free_count-more}
 use Rattle.label_codec.specs.declared.label.Label.{Label}
-use Rattle.module_labels.specs.Labels.{Labels, count, number, one}
+use Rattle.module_labels.specs.Labels.{Labels, count, one}
 use Rattle.region_map.specs.declared.platform.Platform.{Platform}
 use Rattle.label_table.specs.Fates.{is_dead}
-use Rattle.region_sets.specs.declared.modules.LoadedModule.{LoadedModule}
 use Rattle.region_sets.specs.declared.modules.ModuleArea.{ModuleArea}
 use Rattle.region_sets.specs.declared.modules.ModuleArea.TheVariants.{Missing, WrongSize, Uninit, Foreign, Ready}
 use Rattle.region_sets.specs.Held.{spare_in}
@@ -20,7 +19,8 @@ use Rattle.region_sets.specs.Fates.{platform_of}
 use Rattle.label_sets.specs.declared.sets.Sets.TheInside.{Inside}
 use Rattle.label_sets.specs.Kept.{IsKept, shown}
 use Rattle.label_sets.specs.Sets.{StoredSets}
-use Rattle.label_sets.specs.Sweeps.{IsFreeAsSpare, IsSwept, IsSweptAt}
+use Rattle.label_sets.specs.Sweeps.{IsFreeAsSpare, IsSweptAt}
+use Rattle.module_sweeps.specs.Sweeps.{IsSwept}
 use Rattle.label_sets.proofs.SpareSlots.{spare-there}
 
 apart : {A : Type 0} → false ≡ true → A

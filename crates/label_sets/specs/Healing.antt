@@ -2,7 +2,7 @@
 use Rattle.std.specs.Prelude.{◌≡◌, ◌<◌, ℕ, false, true, List, map}
 use Rattle.std.specs.List.{All}
 use Rattle.label_table.specs.Statuses.{RegionReady, status}
-use Rattle.label_table.specs.Tables.{State, changed_at, is_member}
+use Rattle.label_table.specs.Tables.{changed_at, is_member}
 use Rattle.label_table.specs.Wholes.{any_read_only, is_whole, labels_with}
 use Rattle.region_map.specs.declared.platform.Region.{Region}
 use Rattle.region_sets.specs.declared.modules.LoadedModule.{LoadedModule}

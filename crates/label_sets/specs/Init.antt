@@ -1,5 +1,5 @@
 -- The area of a module is initialised.
-use Rattle.std.specs.Prelude.{◌≡◌, ◌≢◌, ℕ, Bool, true, false, List, Option, None, Some, Result, Ok, Err, find, map}
+use Rattle.std.specs.Prelude.{◌≡◌, ℕ, Bool, true, false, List, Option, None, Some, Result, Ok, Err, find, map}
 use Rattle.std.specs.List.{All}
 use Rattle.std.specs.Option.{option_and_then, option_map, option_map_or}
 use Rattle.index_block.specs.declared.geometry.Geometry.{Geometry}
@@ -26,7 +26,7 @@ use Rattle.label_sets.specs.declared.init.SetInitFault.{SetInitFault}
 use Rattle.label_sets.specs.declared.init.SetInitFault.TheVariants.{Refused, Failed, Memory}
 use Rattle.label_sets.specs.Sets.{StoredSets, platform_in}
 use Rattle.label_sets.specs.Sets as sets
-use Rattle.label_sets.specs.Sweeps.{ChangesOnly}
+use Rattle.module_sweeps.specs.Sweeps.{ChangesOnly}
 use Rattle.label_sets.specs.Views.{area_state}
 
 -- the rig failed

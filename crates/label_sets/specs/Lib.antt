@@ -1,4 +1,5 @@
 pub mod Sweeps
+pub mod Releases
 pub mod Init
 pub mod Loads
 pub mod Codes
@@ -11,3 +12,6 @@ pub mod Largest
 pub mod Lookups
 pub mod Staging
 pub mod Healing
+pub mod Dropping
+pub mod Marking
+pub mod Renaming

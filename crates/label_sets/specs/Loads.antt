@@ -1,21 +1,13 @@
 -- What is loaded of the areas of all modules.
-use Rattle.std.specs.Prelude.{◌≡◌, ℕ, ◌==◌, true, false, List, Result, Ok, Err, Some, if◌then◌else◌}
-use Rattle.std.specs.FinMap.{get}
+use Rattle.std.specs.Prelude.{◌≡◌, ℕ, ◌==◌, true, false, List, Result, Ok, Err}
 use Rattle.std.specs.List.{list_any}
 use Rattle.rig_trait.specs.declared.shown.Shown.{Ghosts}
-use Rattle.rig_trait.specs.Areas.{Areas, size_in}
 use Rattle.rig_trait.specs.Frames.{FailsAt}
-use Rattle.module_labels.specs.declared.kind.AreaKind.TheVariants as kind
-use Rattle.module_labels.specs.Labels.{Labels}
 use Rattle.label_area.specs.LoadedAreas.{LoadedArea}
-use Rattle.label_area.specs.Loads.{IsShown}
-use Rattle.label_area.specs.Modules.{area_kind, module_at}
 use Rattle.label_area.specs.declared.load.AreaFault.{AreaFault}
 use Rattle.label_area.specs.declared.load.AreaFault.TheVariants as fault
-use Rattle.region_sets.specs.declared.modules.LoadedModule.{LoadedModule}
 use Rattle.region_sets.specs.declared.modules.ModuleArea.{ModuleArea}
 use Rattle.region_sets.specs.declared.modules.ModuleArea.TheVariants.{Missing, WrongSize, Uninit, Foreign, Ready}
-use Rattle.region_sets.specs.Modules.{without_labels}
 use Rattle.label_sets.specs.declared.load.SetFault.{SetFault}
 use Rattle.label_sets.specs.declared.load.SetFault.TheVariants.{Failed, Memory}
 

@@ -2,13 +2,17 @@
 //! swept (UEFI 2.7, section 13.19).
 #![tactic(auto)]
 
+mod dropping;
 mod free;
 mod healing;
 mod init;
 mod largest;
 mod load;
 mod lookups;
+mod marking;
 mod read;
+mod release;
+mod renaming;
 mod room;
 mod sets;
 mod staging;

@@ -330,6 +330,45 @@ fn known(rt: HostRuntime) -> Result<(), Fail> {
     Ok(())
 }
 
+/// The free extents are the same where they are kept and where they are built anew.
+#[test]
+fn fits(rt: HostRuntime) -> Result<(), Fail> {
+    let alloc = rt.alloc();
+    for (row, offset, size) in [
+        (&NAMESPACES[0], 0, 2 * PART),
+        (&NAMESPACES[1], 2 * MIB, 2 * (PART - 10 * MIB)),
+        (&LEFT[2], 2 * MIB, 2 * (PART - 2 * MIB)),
+    ] {
+        let mut sets = sets(alloc, row.0, row.1)?;
+        fits_at(&rt, alloc, &mut sets, offset, size)?;
+        forget_free(&mut sets);
+        shows_region(&rt, alloc, &sets, &row.2)?;
+        fits_at(&rt, alloc, &mut sets, offset, size)?;
+        shows_region(&rt, alloc, &sets, &row.2)?;
+    }
+    Ok(())
+}
+
+/// The first offset that a namespace of 4 MiB has in the region, and the size of the greatest one.
+fn fits_at(
+    rt: &impl Abort,
+    alloc: Global,
+    sets: &mut Sets,
+    offset: u64,
+    size: u64,
+) -> Result<(), Fail> {
+    assert_eq!(rt; sets.first_fit(alloc, 1, 2 * MIB)?, Some(offset));
+    assert_eq!(rt; sets.largest(alloc, 1)?, Some(size));
+    assert_eq!(rt; sets.first_fit(alloc, 2, 2 * MIB)?, None);
+    assert_eq!(rt; sets.largest(alloc, 2)?, None);
+    Ok(())
+}
+
+/// As after a change that gave back space.
+fn forget_free(sets: &mut Sets) {
+    sets.free.forget();
+}
+
 /// Labels of the first module, and its free slots after a sweep of it, of 14.
 const SWEEPS: [(&[Stored], u32); 3] = [
     (&[Label(0x13, 0, 0, 2 * MIB, 0)], 13),

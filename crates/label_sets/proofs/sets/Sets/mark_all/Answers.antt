@@ -1,0 +1,76 @@
+use Rattle.std.proofs.Common.{◌≡◌, Some, map, sym, ap, subst, ◌∙◌}
+use Rattle.std.specs.List.{All}
+use Rattle.std.specs.Option.{option_copied}
+use Rattle.std.specs.Result.{OnOk}
+use Rattle.std.proofs.lemmas.Option.{same_Some}
+use Rattle.std.proofs.lemmas.Result.{on_ok_weaker}
+use Rattle.rig_trait.specs.Frames.{LeavesOnly}
+use Rattle.label_table.specs.Tables.{table}
+use Rattle.region_map.specs.declared.platform.Region.{Region}
+use Rattle.region_map.specs.Platforms.{region_at}
+use Rattle.region_sets.specs.Modules.{dimm_of}
+use Rattle.module_flips.specs.Stops.{LeftIn}
+use Rattle.module_flips.specs.Stored.{StandsIn}
+use Rattle.namespace_marking.specs.Marking.{IsMarked}
+use Rattle.label_sets.specs.Marking.{IsMarkedIn}
+use Rattle.label_sets.specs.Sets.{platform_in, state_in}
+use Rattle.label_sets.proofs.Passes.{can-heal, found-there, free-after, room-after, seen, still-kept}
+use Rattle.label_sets.proofs.sets.Sets.mark_all.Goals as goal
+
+pub mark_labels-requires-clause-can : goal.mark_labels-requires-clause-can
+mark_labels-requires-clause-can g c =
+    can-heal c.args.platform.now c.self.inside c.self.invariant c.args.self.now c.self.view_is c.requires.platform c.args.region c.in-Some.found.now (sym c.region.ensures ∙ ap option_copied c.in-Some.is)
+    c.deref_mut.result.now c.deref_mut-in-Some.result.now c.deref_mut.ensures.value c.deref_mut-in-Some.ensures.value c.requires.sound c.args.uuid.now c.requires.mark
+
+pub invariant_of-self : goal.invariant_of-self
+invariant_of-self g c =
+    let inside = c.self.inside in
+    let kept = c.self.invariant in
+    let ms = c.deref_mut.result.now in
+    let rs = c.deref_mut-in-Some.result.now in
+    let m = c.deref_mut.ensures.value in
+    let n = c.deref_mut-in-Some.ensures.value in
+    let did = c.mark_labels.ensures in
+    let now = c.mark_labels.new.modules in
+    let regions = c.mark_labels.new.regions in
+    still-kept inside kept ms rs m n now regions did.together inside.free inside.room
+    (free-after inside kept ms rs m n now regions did.together did.table)
+    (room-after inside kept ms rs m n now regions did.together did.room did.counts)
+
+pub returns-clause-stands : goal.returns-clause-stands
+returns-clause-stands g c = λ told.
+    let old = g.R.Shown.areas c.args.rig.now in
+    let new = g.R.Shown.areas c.mark_labels.new.rig in
+    seen c.self.inside c.self.invariant c.deref_mut.result.now c.deref_mut-in-Some.result.now c.deref_mut.ensures.value c.deref_mut-in-Some.ensures.value c.mark_labels.new.modules c.mark_labels.new.regions c.mark_labels.ensures.together
+    c.args.self.now c.self.view_is (λ before after. All (StandsIn old) before.modules → OnOk c.mark_labels.result (All (StandsIn new) after.modules)) c.self.inside.room
+    (c.mark_labels.ensures.stands told)
+
+pub returns-clause-any_moment : goal.returns-clause-any_moment
+returns-clause-any_moment g c = λ told.
+    let m = g.R.Shown in
+    let old = c.args.rig.now in
+    seen c.self.inside c.self.invariant c.deref_mut.result.now c.deref_mut-in-Some.result.now c.deref_mut.ensures.value c.deref_mut-in-Some.ensures.value c.mark_labels.new.modules c.mark_labels.new.regions c.mark_labels.ensures.together
+    c.args.self.now c.self.view_is (λ before after. All (StandsIn (m.areas old)) before.modules
+    → LeavesOnly m old c.mark_labels.new.rig (LeftIn (map dimm_of before.modules) (m.said old) (λ labels. table (platform_in before) labels ≡ (state_in before).table))) c.self.inside.room
+    (c.mark_labels.ensures.any_moment told)
+
+pub returns-clause-marked : goal.returns-clause-marked
+returns-clause-marked g c = λ region found.
+    let inside = c.self.inside in
+    let ms = c.deref_mut.result.now in
+    let rs = c.deref_mut-in-Some.result.now in
+    let did = c.mark_labels.ensures in
+    let now = c.mark_labels.new.modules in
+    let r = c.in-Some.found.now in
+    let there : region_at (platform_in c.args.self.now) c.args.region ≡ Some r =
+    found-there c.args.platform.now inside c.self.invariant c.args.self.now c.self.view_is c.requires.platform c.args.region r (sym c.region.ensures ∙ ap option_copied c.in-Some.is)
+    ms rs c.deref_mut.ensures.value c.deref_mut-in-Some.ensures.value in
+    let same : r ≡ region = same_Some r region (sym there ∙ found) in
+    seen inside c.self.invariant ms rs c.deref_mut.ensures.value c.deref_mut-in-Some.ensures.value now c.mark_labels.new.regions did.together c.args.self.now c.self.view_is
+    (λ before after. OnOk c.mark_labels.result (IsMarkedIn before after c.args.uuid.now region)) inside.room
+    (on_ok_weaker c.mark_labels.result (λ marked. record {
+      same_table = marked.same_table;
+      marks = marked.marks;
+      can_drop = record { whole = marked.stands.whole; stale = marked.stale };
+      same_free = marked.same_free;
+    }) (subst (λ (q : Region). OnOk c.mark_labels.result (IsMarked ms rs q c.args.uuid.now now)) same did.marked))

@@ -1,0 +1,71 @@
+//! The first flip of renaming a namespace.
+
+ghost use Rattle.std.specs.Prelude.{◌≡◌, IsSome, OnErr, OnOk, map};
+ghost use Rattle.std.specs.List.{All};
+ghost use Rattle.rig_trait.specs.Frames.{IsTold, LeavesOnly};
+ghost use Rattle.region_map.specs.Platforms.{IsSound, region_at};
+ghost use Rattle.region_sets.specs.Modules.{dimm_of};
+ghost use Rattle.region_sets.specs.Regions.{handles};
+ghost use Rattle.module_flips.specs.Flips.{IsSizedIn};
+ghost use Rattle.module_flips.specs.Stops.{HasAreaCause, LeftIn, WritesAmong};
+ghost use Rattle.module_flips.specs.Stored.{StandsIn};
+ghost use Rattle.namespace_marking.specs.Renaming.{IsBeforeOrRenamed};
+
+use crate::sets::Sets;
+use module_flips::AreaFailed;
+use namespace_marking::change_first;
+use region_map::Platform;
+use rig_trait::Rig;
+
+impl Sets {
+    ghost use Rattle.region_sets.specs.Modules.{size_in};
+    ghost use Rattle.label_sets.specs.Sets as sets;
+    ghost use Rattle.label_sets.specs.Sets.{platform_in, state_in};
+    ghost use Rattle.label_sets.specs.Staging.{OfRegion};
+    ghost use Rattle.label_sets.specs.Healing.{CanHealIn};
+    ghost use Rattle.label_sets.specs.Renaming.{IsRenamedIn};
+
+    /// Gives the label of position 0 of a namespace another name, and marks it as being changed, by one flip. The region
+    /// is Ready, and the namespace is not read-only. From then on it has the name, and is pending: `clear_all` ends the
+    /// rename. It needs the platform whose state this is, and takes no memory. A stop at any moment leaves areas that
+    /// stand for the state before, or for that with the name. `Err` where the rig failed: what is kept is as before
+    /// then.
+    pub fn change_first<R: Rig>(
+        &mut self,
+        rig: &mut R,
+        platform: &Platform,
+        region: u16,
+        uuid: &[u8; 16],
+        name: &[u8; 64],
+    ) -> Result<(), AreaFailed>
+        requires sound { IsSound platform.now }
+        requires platform { platform.now.regions ≡ self.old.regions }
+        requires found { IsSome (region_at (platform_in self.old) region) }
+        requires rename { OfRegion self.old region (CanHealIn self.old uuid.now) }
+        requires sized { IsTold R.Shown rig.old → All (IsSizedIn (R.areas rig.old)) self.old.modules }
+        ensures renamed { OfRegion self.old region (λ found.
+            OnOk result (IsRenamedIn self.old self.new uuid.now name.now found)) }
+        ensures kept { OnErr result (self.new ≡ self.old) }
+        ensures regions { self.new.regions ≡ self.old.regions }
+        ensures room { self.new.room ≡ self.old.room }
+        ensures dimms { map dimm_of self.new.modules ≡ map dimm_of self.old.modules }
+        ensures sizes { map size_in self.new.modules ≡ map size_in self.old.modules }
+        ensures stands { IsTold R.Shown rig.old → All (StandsIn (R.areas rig.old)) self.old.modules
+            → OnOk result (All (StandsIn (R.areas rig.new)) self.new.modules) }
+        ensures any_moment { OfRegion self.old region (λ found. IsTold R.Shown rig.old
+            → All (StandsIn (R.areas rig.old)) self.old.modules
+            → LeavesOnly R.Shown rig.old rig.new (LeftIn (map dimm_of self.old.modules) (R.said rig.old)
+            (IsBeforeOrRenamed (platform_in self.old) found uuid.now name.now (sets.labels_in self.old)))) }
+        ensures writes_among { OfRegion self.old region (λ found. WritesAmong (handles found) R.Shown rig.old rig.new) }
+        ensures cause { OfRegion self.old region (λ found.
+            HasAreaCause (handles found) R.Shown rig.old rig.new result) }
+        ensures reads { R.reads rig.new ≡ R.reads rig.old }
+    {
+        match platform.region(region) {
+            Some(found) => {
+                change_first(rig, &mut self.modules, &mut self.regions, found, uuid, name)
+            },
+            None => unreachable!(),
+        }
+    }
+}
