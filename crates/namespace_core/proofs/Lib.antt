@@ -18,3 +18,4 @@ pub mod ReleaseRefusals
 pub mod Passes
 pub mod ChangedSpaces
 pub mod ChangeEnds
+pub mod ReleaseEnds

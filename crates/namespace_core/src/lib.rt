@@ -8,10 +8,12 @@ mod lists;
 mod recovering;
 mod refusals;
 mod release_refusals;
+mod releasing;
 mod translations;
 
 pub use creation::{ChangeFault, create};
 pub use lists::{Query, show};
+pub use releasing::release_held;
 pub use translations::{to_module, to_runs, to_spa};
 
 #[cfg(test)]
