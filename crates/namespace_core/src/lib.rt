@@ -17,4 +17,6 @@ pub use releasing::release_held;
 pub use translations::{to_module, to_runs, to_spa};
 
 #[cfg(test)]
+mod release_tests;
+#[cfg(test)]
 mod tests;
