@@ -18,4 +18,5 @@ pub mod ReleaseRefusals
 pub mod Passes
 pub mod ChangedSpaces
 pub mod ChangeEnds
+pub mod ReleaseEnds
 pub mod ChangePasses

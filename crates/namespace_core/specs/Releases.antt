@@ -1,5 +1,5 @@
 -- What refuses a release of held labels, told of the held labels of a module as they are listed.
-use Rattle.std.specs.Prelude.{◌≡◌, ℕ, ◌==◌, ◌&&◌, ◌||◌, Bool, false, not, List, ◌∷◌, Option, None, Some}
+use Rattle.std.specs.Prelude.{◌≡◌, ℕ, ◌==◌, ◌&&◌, ◌||◌, Bool, false, not, true, List, ◌∷◌, Option, None, Some}
 use Rattle.std.specs.List.{list_any}
 use Rattle.std.specs.Str.{bytes_eq}
 use Rattle.view_types.specs.declared.namespaces.Held.{Held}
@@ -9,6 +9,8 @@ use Rattle.region_map.specs.declared.platform.Platform.{Platform}
 use Rattle.region_map.specs.declared.platform.Region.{Region}
 use Rattle.label_table.specs.Wholes.{all_ready}
 use Rattle.table_steps.specs.Refusals.{area_not_ready, first_of, unknown_dimm}
+use Rattle.namespace_core.specs.declared.creation.ChangeFault.{ChangeFault}
+use Rattle.namespace_core.specs.declared.creation.ChangeFault.TheVariants as faults
 use Rattle.namespace_core.specs.Lists.{AreHeldOf}
 
 -- a held label has the uuid
@@ -37,3 +39,8 @@ pub record IsReadyHeld (platform : Platform) (labels : Labels) (dimm : ℕ) (hel
   pub unrefused : (more : List (Option Refusal))
       → first_of (unknown_dimm platform dimm ∷ area_not_ready labels dimm ∷ more) ≡ first_of more
   pub held_are : AreHeldOf platform labels dimm held
+
+-- the module of an area that failed is one of the platform's
+abbrev pub IsAreaOf : Platform → ChangeFault → Type 0
+IsAreaOf platform (faults.Area dimm) = list_any (λ handle. handle == dimm) platform.modules ≡ true
+IsAreaOf platform faults.Memory = Unit {0}

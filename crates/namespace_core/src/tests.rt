@@ -10,7 +10,7 @@ use test_areas::{nfit, two_modules};
 use view_types::{Refusal, Reply};
 
 /// The platform of two modules with lines of 4,096 bytes.
-fn platform(alloc: Global) -> Result<Platform, &'static str>
+pub(crate) fn platform(alloc: Global) -> Result<Platform, &'static str>
     ensures { IfOk result IsSound }
 {
     let structures = two_modules(alloc).ok().ok_or("no memory")?;
