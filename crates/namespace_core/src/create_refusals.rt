@@ -29,12 +29,13 @@ const LEAST_SPARE: u32 = 2;
 pub(crate) fn create_refusal(
     alloc: Global,
     platform: &Platform,
-    sets: &Sets,
+    sets: &mut Sets,
     asked: &NewNamespace,
 ) -> Result<Option<Refusal>, AllocError>
     requires sound { IsSound platform.now }
-    requires state { IsStateOf platform.now sets.now }
-    ensures { IfOk result (IsCreateRefusal platform.now (labels_in sets.now) asked.now) }
+    requires state { IsStateOf platform.now sets.old }
+    ensures same { sets.new ≡ sets.old }
+    ensures refusal { IfOk result (IsCreateRefusal platform.now (labels_in sets.old) asked.now) }
 {
     match ready_view(alloc, platform, sets, asked.region) {
         Ok(_) => (),
@@ -45,30 +46,33 @@ pub(crate) fn create_refusal(
         // The state has no other regions.
         unreachable!()
     };
-    Ok(ready_refusal(platform, sets, region, asked))
+    ready_refusal(alloc, platform, sets, region, asked)
 }
 
 /// The first refusal of a create in a region that is Ready.
 fn ready_refusal(
+    alloc: Global,
     platform: &Platform,
-    sets: &Sets,
+    sets: &mut Sets,
     region: &Region,
     asked: &NewNamespace,
-) -> Option<Refusal>
+) -> Result<Option<Refusal>, AllocError>
     requires sound { IsSound platform.now }
-    requires state { IsStateOf platform.now sets.now }
+    requires state { IsStateOf platform.now sets.old }
     requires known { region_at platform.now asked.now.region ≡ Some region.now }
-    requires ready { status (labels_in sets.now) region.now ≡ RegionReady }
-    ensures { IsCreateRefusal platform.now (labels_in sets.now) asked.now result }
+    requires ready { status (labels_in sets.old) region.now ≡ RegionReady }
+    ensures same { sets.new ≡ sets.old }
+    ensures refusal { IfOk result (IsCreateRefusal platform.now (labels_in sets.old) asked.now) }
 {
     let index = asked.region;
     // An accepted create makes each of these look-ups.
-    unhealed(sets, index)
+    let refusal = unhealed(sets, index)
         .or(bad_size(asked.size, region))
         .or(name_in_use(sets, index, &asked.name))
-        .or(uuid_in_use(platform, sets, &asked.uuid))
-        .or(no_space(sets, index, asked.size))
-        .or(no_slots(sets, index))
+        .or(uuid_in_use(platform, sets, &asked.uuid));
+    let no_slots = no_slots(sets, index);
+    let no_space = no_space(alloc, sets, index, asked.size)?;
+    Ok(refusal.or(no_space).or(no_slots))
 }
 
 /// A namespace of the region is pending, and one of its modules has no slot for the labels of a recovery.
@@ -138,14 +142,21 @@ fn uuid_in_use(platform: &Platform, sets: &Sets, uuid: &[u8; 16]) -> Option<Refu
 }
 
 /// The greatest namespace that the free extents of the region have room for is smaller than `size` bytes.
-fn no_space(sets: &Sets, index: u16, size: u64) -> Option<Refusal>
-    ensures { OfRegion sets.now index (λ region. (free : List Extent)
-        → AreFreeExtents (platform_in sets.now) (labels_in sets.now) region free
-        → result ≡ no_space_in free size region) }
+fn no_space(
+    alloc: Global,
+    sets: &mut Sets,
+    index: u16,
+    size: u64,
+) -> Result<Option<Refusal>, AllocError>
+    ensures same { sets.new ≡ sets.old }
+    ensures refusal { OfRegion sets.old index (λ region. (free : List Extent)
+        → AreFreeExtents (platform_in sets.old) (labels_in sets.old) region free
+        → IfOk result (λ refusal. refusal ≡ no_space_in free size region)) }
 {
-    match sets.largest(index) {
-        Some(largest) if largest < size => Some(Refusal::NoSpace { largest }),
-        _ => None,
+    let largest = sets.largest(alloc, index)?;
+    match largest {
+        Some(largest) if largest < size => Ok(Some(Refusal::NoSpace { largest })),
+        _ => Ok(None),
     }
 }
 

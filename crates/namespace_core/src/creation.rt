@@ -1,6 +1,6 @@
 //! The command that makes a namespace.
 
-ghost use Rattle.std.specs.Prelude.{◌≡◌, IfErr, IfOk, None, OnOk, Some, map, true};
+ghost use Rattle.std.specs.Prelude.{◌≡◌, IfErr, IfOk, None, OnErr, OnOk, Some, map, true};
 ghost use Rattle.std.specs.List.{All};
 ghost use Rattle.rig_trait.specs.Frames.{IsTold, LeavesOnly};
 ghost use Rattle.region_map.specs.Platforms.{IsSound, region_at};
@@ -23,7 +23,7 @@ use label_sets::{AreaFailed, Sets};
 use recovery::{RecoverFault, recover};
 use region_map::{Member, Platform, Region};
 use rig_trait::Rig;
-use std::alloc::Global;
+use std::alloc::{AllocError, Global};
 use table_steps::NewNamespace;
 use view_types::{Namespace, Reply};
 
@@ -77,9 +77,34 @@ pub fn create<R: Rig>(
         // Else it is refused.
         unreachable!()
     };
-    match sets.reserve() {
-        Ok(()) => make(rig, platform, sets, region, asked),
+    match prepare(alloc, platform, sets, region, asked) {
+        Ok(space) => make(rig, platform, sets, region, asked, &space),
         Err(_) => Err(ChangeFault::Memory),
+    }
+}
+
+/// Finds the place of a namespace that nothing refuses, and takes all the memory that its create needs.
+fn prepare(
+    alloc: Global,
+    platform: &Platform,
+    sets: &mut Sets,
+    region: &Region,
+    asked: &NewNamespace,
+) -> Result<Namespace, AllocError>
+    requires state { IsStateOf platform.now sets.old }
+    requires known { region_at platform.now asked.now.region ≡ Some region.now }
+    requires unrefused { IsCreateRefusal platform.now (labels_in sets.old) asked.now None }
+    ensures room { OnOk result (sets.new ≡ record sets.old { room = true }) }
+    ensures space { IfOk result (IsNewSpace platform.now (labels_in sets.old) asked.now region.now) }
+    ensures kept { OnErr result (sets.new ≡ sets.old) }
+{
+    let space = match new_namespace(alloc, platform, sets, region, asked) {
+        Ok(space) => space,
+        Err(fault) => return Err(fault),
+    };
+    match sets.reserve() {
+        Ok(()) => Ok(space),
+        Err(fault) => Err(fault),
     }
 }
 
@@ -90,11 +115,13 @@ fn make<R: Rig>(
     sets: &mut Sets,
     region: &Region,
     asked: &NewNamespace,
+    space: &Namespace,
 ) -> Result<Reply, ChangeFault>
     requires sound { IsSound platform.now }
     requires state { IsStateOf platform.now sets.old }
     requires known { region_at platform.now asked.now.region ≡ Some region.now }
     requires unrefused { IsCreateRefusal platform.now (labels_in sets.old) asked.now None }
+    requires space { IsNewSpace platform.now (labels_in sets.old) asked.now region.now space.now }
     requires room { sets.old.room ≡ true }
     requires sized { IsTold R.Shown rig.old → All (IsSizedIn (R.areas rig.old)) sets.old.modules }
     ensures made { IfOk result (λ reply.
@@ -106,40 +133,41 @@ fn make<R: Rig>(
         → OnOk result (All (StandsIn (R.areas rig.new)) sets.new.modules) }
     ensures cause { HasChangeCause (handles region.now) R.Shown rig.old rig.new result }
 {
-    let space = new_namespace(platform, sets, region, asked);
     match recover_region(rig, platform, sets, region, asked) {
         Ok(()) => (),
         Err(failed) => return Err(ChangeFault::Area { dimm: failed.dimm }),
     }
     // As free as they are spare, the modules have no dead label with the uuid.
     sets.sweep_law();
-    match put_namespace(rig, platform, sets, region, &space) {
-        Ok(()) => Ok(created(sets, region, asked, &space)),
+    match put_namespace(rig, platform, sets, region, space) {
+        Ok(()) => Ok(created(sets, region, asked, space)),
         Err(failed) => Err(ChangeFault::Area { dimm: failed.dimm }),
     }
 }
 
 /// The namespace that a create makes where nothing refuses it.
 fn new_namespace(
+    alloc: Global,
     platform: &Platform,
-    sets: &Sets,
+    sets: &mut Sets,
     region: &Region,
     asked: &NewNamespace,
-) -> Namespace
-    requires state { IsStateOf platform.now sets.now }
+) -> Result<Namespace, AllocError>
+    requires state { IsStateOf platform.now sets.old }
     requires known { region_at platform.now asked.now.region ≡ Some region.now }
-    requires unrefused { IsCreateRefusal platform.now (labels_in sets.now) asked.now None }
-    ensures { IsNewSpace platform.now (labels_in sets.now) asked.now region.now result }
+    requires unrefused { IsCreateRefusal platform.now (labels_in sets.old) asked.now None }
+    ensures same { sets.new ≡ sets.old }
+    ensures space { IfOk result (IsNewSpace platform.now (labels_in sets.old) asked.now region.now) }
 {
     let uuid = asked.uuid;
     let name = asked.name;
     let abstraction = asked.abstraction;
     let length = asked.size / region.members.len() as u64;
-    let Some(offset) = sets.first_fit(asked.region, length) else {
+    let Some(offset) = sets.first_fit(alloc, asked.region, length)? else {
         // The free extents have room for the size.
         unreachable!()
     };
-    Namespace {
+    Ok(Namespace {
         uuid,
         name,
         abstraction,
@@ -148,7 +176,7 @@ fn new_namespace(
         length,
         pending: true,
         read_only: false,
-    }
+    })
 }
 
 /// Recovers the region of a create that nothing refuses. The table stays.

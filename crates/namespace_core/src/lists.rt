@@ -32,12 +32,13 @@ pub enum Query {
 pub fn show(
     alloc: Global,
     platform: &Platform,
-    sets: &Sets,
+    sets: &mut Sets,
     query: Query,
 ) -> Result<Reply, AllocError>
     requires sound { IsSound platform.now }
-    requires state { IsStateOf platform.now sets.now }
-    ensures { IfOk result (IsShown platform.now (labels_in sets.now) query) }
+    requires state { IsStateOf platform.now sets.old }
+    ensures same { sets.new ≡ sets.old }
+    ensures shown { IfOk result (IsShown platform.now (labels_in sets.old) query) }
 {
     match query {
         Query::Spaces { region: None } => all_spaces(alloc, platform, sets),
@@ -156,18 +157,19 @@ fn shown_region(
 fn free_extents(
     alloc: Global,
     platform: &Platform,
-    sets: &Sets,
+    sets: &mut Sets,
     index: u16,
 ) -> Result<Reply, AllocError>
-    requires state { IsStateOf platform.now sets.now }
-    ensures { IfOk result (IsFree platform.now (labels_in sets.now) index) }
+    requires state { IsStateOf platform.now sets.old }
+    ensures same { sets.new ≡ sets.old }
+    ensures free { IfOk result (IsFree platform.now (labels_in sets.old) index) }
 {
     let view = match ready_view(alloc, platform, sets, index) {
         Ok(view) => view,
         Err(Unanswered::Refused(refusal)) => return Ok(Reply::Refused(refusal)),
         Err(Unanswered::Memory) => return Err(AllocError),
     };
-    match sets.largest(index) {
+    match sets.largest(alloc, index)? {
         Some(largest) => Ok(Reply::Free {
             extents: view.free,
             largest,

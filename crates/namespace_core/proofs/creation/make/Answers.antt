@@ -1,6 +1,5 @@
-use Rattle.std.proofs.Common.{◌≡◌, ℕ, List, map, Some, sym, ap, ◌∙◌}
+use Rattle.std.proofs.Common.{ℕ, sym, ap, ◌∙◌}
 use Rattle.view_types.specs.declared.reply.Reply.TheVariants.{Created}
-use Rattle.module_labels.specs.Labels.{Labels}
 use Rattle.label_table.specs.Spaces.{Space}
 use Rattle.region_sets.specs.Regions.{handles}
 use Rattle.namespace_staging.proofs.Flips.{sized-on}
@@ -22,7 +21,7 @@ put_namespace-requires-clause-known g c = own-index c.args.platform.now c.args.a
 pub put_namespace-requires-clause-put : goal.put_namespace-requires-clause-put
 put_namespace-requires-clause-put g c =
     can-put c.args.platform.now c.requires.sound c.args.sets.now c.recover_region.new.sets c.requires.state c.args.asked.now c.args.region.now c.requires.known c.requires.unrefused
-    c.recover_region.ensures.step.regions c.in-Ok.ensures.recovered c.sweep_law.ensures.bounded c.sweep_law.ensures.swept c.new_namespace-space.result c.new_namespace-space.ensures
+    c.recover_region.ensures.step.regions c.in-Ok.ensures.recovered c.sweep_law.ensures.bounded c.sweep_law.ensures.swept c.args.space.now c.requires.space
 
 pub put_namespace-requires-clause-room : goal.put_namespace-requires-clause-room
 put_namespace-requires-clause-room g c = c.recover_region.ensures.room ∙ c.requires.room
@@ -48,8 +47,8 @@ pub returns-in-Ok-put_namespace-clause-made : goal.returns-in-Ok-put_namespace-c
 returns-in-Ok-put_namespace-clause-made g c =
     let a = c.args.asked.now in
     let r = c.args.region.now in
-    let s = c.new_namespace-space.result in
-    let new = c.new_namespace-space.ensures in
+    let s = c.args.space.now in
+    let new = c.requires.space in
     let now = c.put_namespace.new.sets in
     made-by c.args.platform.now c.requires.sound c.args.sets.now c.recover_region.new.sets c.requires.state a r c.requires.known c.requires.unrefused c.recover_region.ensures.step.regions c.in-Ok.ensures.recovered
     s new now c.in-Ok-put_namespace.ensures.put c.created.result
@@ -63,13 +62,13 @@ returns-in-Ok-put_namespace-clause-step g c =
     let now = c.put_namespace.new.sets in
     let a = c.args.asked.now in
     let r = c.args.region.now in
-    let s = c.new_namespace-space.result in
+    let s = c.args.space.now in
     let fits = IsBeforeOrAfter P (labels_in sets) a in
     joined-steps (handles r) fits sets mid now
     (weaker-step (handles r) (IsTableOf sets) fits sets mid (before-fits P sets c.requires.state.regions a) c.recover_region.ensures.step)
     (λ told all. c.in-Ok.ensures.stands told all)
     (weaker-step (handles r) (IsTableOrWith mid r (new_space s)) fits mid now
-    (put-fits P c.requires.sound sets mid c.requires.state a r c.requires.known c.requires.unrefused c.recover_region.ensures.step.regions c.in-Ok.ensures.recovered s c.new_namespace-space.ensures) c.put_namespace.ensures.step)
+    (put-fits P c.requires.sound sets mid c.requires.state a r c.requires.known c.requires.unrefused c.recover_region.ensures.step.regions c.in-Ok.ensures.recovered s c.requires.space) c.put_namespace.ensures.step)
 
 pub returns-in-Ok-put_namespace-clause-stands : goal.returns-in-Ok-put_namespace-clause-stands
 returns-in-Ok-put_namespace-clause-stands g c = λ told all.
@@ -86,13 +85,13 @@ returns-in-Err-put_namespace-clause-step g c =
     let now = c.put_namespace.new.sets in
     let a = c.args.asked.now in
     let r = c.args.region.now in
-    let s = c.new_namespace-space.result in
+    let s = c.args.space.now in
     let fits = IsBeforeOrAfter P (labels_in sets) a in
     joined-steps (handles r) fits sets mid now
     (weaker-step (handles r) (IsTableOf sets) fits sets mid (before-fits P sets c.requires.state.regions a) c.recover_region.ensures.step)
     (λ told all. c.in-Ok.ensures.stands told all)
     (weaker-step (handles r) (IsTableOrWith mid r (new_space s)) fits mid now
-    (put-fits P c.requires.sound sets mid c.requires.state a r c.requires.known c.requires.unrefused c.recover_region.ensures.step.regions c.in-Ok.ensures.recovered s c.new_namespace-space.ensures) c.put_namespace.ensures.step)
+    (put-fits P c.requires.sound sets mid c.requires.state a r c.requires.known c.requires.unrefused c.recover_region.ensures.step.regions c.in-Ok.ensures.recovered s c.requires.space) c.put_namespace.ensures.step)
 
 pub returns-in-Err-put_namespace-clause-cause : goal.returns-in-Err-put_namespace-clause-cause
 returns-in-Err-put_namespace-clause-cause g c =

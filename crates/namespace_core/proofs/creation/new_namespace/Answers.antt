@@ -1,4 +1,4 @@
-use Rattle.std.proofs.Common.{◌≡◌, ℕ, ◌/◌, ◌<◌, Option, Some, None, length, sym, ap, subst, ◌∙◌}
+use Rattle.std.proofs.Common.{◌/◌, ◌<◌, Some, None, sym, subst}
 use Rattle.label_sets.specs.Lookups.{FitsFirst}
 use Rattle.label_sets.specs.Sets.{labels_in}
 use Rattle.namespace_core.proofs.AcceptedCreates.{fits-first, has-free, has-place, made-length}
@@ -18,15 +18,15 @@ unreachable-requires c =
     let sets = c.args.sets.now in
     let r = c.args.region.now in
     has-place c.args.platform.now sets c.requires.state a r c.requires.known c.requires.unrefused
-    (subst (λ n. FitsFirst sets a.region (a.size / n) None) c.len.ensures (subst (FitsFirst sets a.region (a.size / c.len.result)) c.in_default.is c.first_fit.ensures))
+    (subst (λ n. FitsFirst sets a.region (a.size / n) None) c.len.ensures (subst (FitsFirst sets a.region (a.size / c.len.result)) c.in_default.is c.in_ok-offset.ensures.fit))
 
-pub returns : goal.returns
-returns c =
+pub returns-clause-space : goal.returns-clause-space
+returns-clause-space c =
     let a = c.args.asked.now in
     let sets = c.args.sets.now in
     let r = c.args.region.now in
     record {
       first = fits-first c.args.platform.now sets c.requires.state a r c.requires.known c.requires.unrefused c.in-Some.offset
-          (subst (λ n. FitsFirst sets a.region (a.size / n) (Some c.in-Some.offset)) c.len.ensures (subst (FitsFirst sets a.region (a.size / c.len.result)) c.in-Some.is c.first_fit.ensures));
+          (subst (λ n. FitsFirst sets a.region (a.size / n) (Some c.in-Some.offset)) c.len.ensures (subst (FitsFirst sets a.region (a.size / c.len.result)) c.in-Some.is c.in_ok-offset.ensures.fit));
       is_made = made-length a r c.in-Some.offset c.len.result c.len.ensures;
     }
