@@ -56,6 +56,7 @@ module _ {R : Type 0} (m : Ghosts R) (start : StoredSession) (seed : ℕ) (lines
           next = with_reply going.progress reply (state_of now);
           does = next-does m start seed lines old k session mid refused going line is_next reply (state_of now) cut.turned.does;
           text = text_if reply;
+          some = cut.some;
           text_is = refl;
           said_is = λ current.
               let front = cut.turned.said_is (going.goes_on.tells ∙ current.told) in

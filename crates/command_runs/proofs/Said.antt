@@ -1,5 +1,5 @@
 -- A line is done, and its reply said.
-use Rattle.std.proofs.Common.{◌≡◌, ◌⊎◌, inl, inr, ℕ, Bool, true, false, List, ◌++◌, Option, Some, Result, Ok, Err, take, refl, sym, ap, ◌∙◌, subst}
+use Rattle.std.proofs.Common.{◌≡◌, ◌⊎◌, inl, inr, ℕ, Bool, true, false, List, [], ◌∷◌, ◌++◌, codes, Option, Some, Result, Ok, Err, take, refl, sym, ap, ◌∙◌, subst}
 use Rattle.std.specs.FinMap.{get}
 use Rattle.rig_trait.specs.declared.shown.Shown.{Ghosts}
 use Rattle.rig_trait.specs.Areas.{Areas}
@@ -15,6 +15,7 @@ use Rattle.label_area.specs.Modules.{area_kind}
 use Rattle.module_labels.specs.declared.kind.AreaKind.TheVariants.{Uninit}
 use Rattle.region_map.specs.declared.platform.Platform.{Platform}
 use Rattle.report_json.specs.Texts.{is_one_line, reply_text}
+use Rattle.report_json.proofs.Ends.{ended}
 use Rattle.sessions.specs.Sessions.{IsCurrent, StoredSession, state_of}
 use Rattle.view_types.specs.declared.reply.Reply.{Reply}
 use Rattle.view_types.specs.declared.word_fault.WordFault.{WordFault}
@@ -35,6 +36,14 @@ LeavesAreas-same platform named areas from c areas_are torn_is left q = elim (le
   | inr (may, ready) ↦ inr (may, λ fair. subst (λ (a : Areas). (area_kind (get a q) ≡ Uninit) ⊎ IsVacant (get a q) (slots_of (get areas q))) (sym areas_are)
       (ready (IsFair-same c from (sym areas_are) (sym torn_is) fair)))
 ]
+
+-- no reply is empty
+appended-some : (before text : List ℕ) → ¬ (text ≡ []) → ¬ (before ++ text ≡ [])
+appended-some [] text some none = some none
+appended-some (byte ∷ before) text some none = cc
+
+reply-some : (reply : Reply) → ¬ (reply_text reply ≡ [])
+reply-some reply = let end = ended reply in λ none. appended-some end.0 (codes "\n") (λ same. cc) (sym end.1 ∙ none)
 
 module _ {R : Type 0} (m : Ghosts R) (session : StoredSession) (seed number : ℕ) (line : Result (Option Command) WordFault) (old : R) (now : StoredSession) where
   abbrev LeftByTurn : CrashRecord → Type 0
@@ -167,6 +176,7 @@ module _ {R : Type 0} (m : Ghosts R) (session : StoredSession) (seed number : �
   turns-cut mid new reply a tells = record {
     turns_to = record {
       reply = Some reply;
+      some = reply-some reply;
       turned = turned mid new reply a true tells (SaysFront (m.said old) (m.said new))
           (λ told. let front = tells.front (told-mid mid new reply a true tells told) in
           (front.0, front.1 ∙ ap (λ (said : List ℕ). said ++ take front.0 (reply_text reply)) a.nothing.said));

@@ -1,5 +1,5 @@
 -- How a list of lines ends: all are done, or a fault ends it.
-use Rattle.std.specs.Prelude.{◌≡◌, ℕ, ◌<◌, Bool, false, List, ◌++◌, length, take, Result, Ok, Err}
+use Rattle.std.specs.Prelude.{◌≡◌, ℕ, ◌<◌, Bool, false, List, [], ◌++◌, length, take, Result, Ok, Err}
 use Rattle.rig_trait.specs.declared.shown.Shown.{Ghosts}
 use Rattle.rig_trait.specs.Records.{CrashRecord}
 use Rattle.sessions.specs.Sessions.{IsCurrent, StoredSession, slots_of, state_of}
@@ -41,7 +41,9 @@ pub record IsCutOff {R : Type 0} (m : Ghosts R) (known : Type 0) (run : Run) (k 
     (session : StoredSession) : Type 0 where
   pub next : Progress
   pub does : DoesNext known run k progress next
+  -- a blank line and a comment have no reply that could be cut off
   pub text : List ℕ
+  pub some : ¬ (text ≡ [])
   pub text_is : next.said ≡ progress.said ++ text
   pub said_is : known → (count : ℕ) × (m.said new ≡ m.said old ++ progress.said ++ take count text)
   pub state_is : state_of session ≡ next.state

@@ -114,10 +114,11 @@ pub record IsWhole {R : Type 0} (m : Ghosts R) (session : StoredSession) (seed n
   pub turned : IsTurned m session seed number line old now new reply (SaysAll (m.said old) (m.said new))
   pub refused_is : refused ≡ is_refusal_if reply
 
--- the reply was not said whole
+-- the reply was not said whole; a blank line and a comment have none
 pub record IsCut {R : Type 0} (m : Ghosts R) (session : StoredSession) (seed number : ℕ)
     (line : Result (Option Command) WordFault) (old : R) (now : StoredSession) (new : R) : Type 0 where
   pub reply : Option Reply
+  pub some : ¬ (text_if reply ≡ [])
   pub turned : IsTurned m session seed number line old now new reply (SaysFront (m.said old) (m.said new))
 
 -- the rig failed at an area, and nothing was said

@@ -1,12 +1,6 @@
-pub mod Unsaid
-pub mod Behind
-pub mod Steps
-pub mod Applied
-pub mod Lines
-pub mod Requests
-pub mod Answered
-pub mod Refused
-pub mod Endings
-pub mod Saying
-pub mod Ends
 pub mod Handles
+pub mod Known
+pub mod Started
+pub mod Finished
+pub mod Listings
+pub mod Requests

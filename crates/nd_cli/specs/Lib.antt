@@ -1,9 +1,10 @@
 pub mod Words
-pub mod Tasks
-pub mod Uuids
 pub mod Texts
 pub mod Statuses
-pub mod Answers
+pub mod Faults
+pub mod Saying
+pub mod Sources
+pub mod Labels
 pub mod Stops
-pub mod Tables
-pub mod Outcomes
+pub mod Runs
+pub mod Ends

@@ -1,7 +1,7 @@
 -- The numbers of the statuses of runs.
-use Rattle.std.specs.Prelude.{ℕ}
-use Rattle.view_types.specs.declared.reply.Reply.{Reply}
-use Rattle.view_types.specs.declared.reply.Reply.TheVariants.{Refused}
+use Rattle.std.specs.Prelude.{ℕ, Bool, if◌then◌else◌}
+use Rattle.nd_cli.specs.declared.faults.Fault.{Fault}
+use Rattle.nd_cli.specs.declared.faults.Fault.TheVariants.{Words, Nfit, Area, Source, Limit, Memory}
 use Rattle.nd_cli.specs.declared.statuses.Status.{Status}
 use Rattle.nd_cli.specs.declared.statuses.Status.TheVariants as status
 
@@ -15,7 +15,15 @@ code_of status.Source = 5
 code_of status.Memory = 6
 code_of status.Say = 7
 
--- of a run whose reply is said
-abbrev pub reply_code : Reply → ℕ
-reply_code (Refused refusal) = 1
-reply_code _ = 0
+-- of a run that a fault ends, whose line is said
+abbrev pub fault_status : Fault → ℕ
+fault_status Words = 2
+fault_status (Nfit fault) = 3
+fault_status (Area dimm) = 4
+fault_status (Source source) = 5
+fault_status (Limit source) = 5
+fault_status Memory = 6
+
+-- of one that no fault ends
+abbrev pub refused_status : Bool → ℕ
+refused_status refused = if refused then 1 else 0

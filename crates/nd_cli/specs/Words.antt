@@ -7,7 +7,7 @@ use Rattle.std.specs.Str.{bytes_eq}
 use Rattle.cmd_words.specs.Numbers.{below, number}
 use Rattle.std.specs.String.{string_bytes}
 use Rattle.nd_cli.specs.declared.words.Form.{Form}
-use Rattle.nd_cli.specs.declared.words.Form.TheVariants.{Labels, Do}
+use Rattle.nd_cli.specs.declared.words.Form.TheVariants.{Labels, Do, Run}
 use Rattle.nd_cli.specs.declared.words.Request.{Request}
 use Rattle.nd_cli.specs.declared.words.Request.TheVariants as requests
 
@@ -45,13 +45,21 @@ abbrev pub do_form : List Word → Option Form
 do_form (command ∷ dir ∷ word ∷ words) = Some Do
 do_form _ = None
 
+-- `run DIR`: exactly two words
+abbrev pub run_form : List Word → Option Form
+run_form (command ∷ dir ∷ []) = Some Run
+run_form _ = None
+
 abbrev pub is_command : List ℕ → List Word → Bool
 is_command name [] = false
 is_command name (command ∷ words) = bytes_eq (string_bytes command) name
 
 -- The first of the words without a first `--` says which form they may be.
 abbrev pub operands_form : List Word → Option Form
-operands_form words = if is_command (codes "do") words then do_form words else labels_form words
+operands_form words =
+    if is_command (codes "do") words then do_form words
+    else if is_command (codes "run") words then run_form words
+    else labels_form words
 
 -- Before a first `--` no word may be an option. All words behind it are taken as they are.
 abbrev pub form_in : List Word → List Word → Option Form
@@ -68,15 +76,17 @@ dir_of words = unwrap_or (option_map string_bytes (slice_get (operands words) 1)
 abbrev pub line_of : List Word → List ℕ
 line_of operands = join_by string_bytes (codes " ") (drop 2 operands)
 
--- what the words of a run ask for: the labels of a module, or what a line says
+-- what the words of a run ask for: the labels of a module, or that one line is done, or those of the input
 pub data Asked : Type 0 where
   LabelsOf : (dimm : ℕ) → Asked
-  Line : (bytes : List ℕ) → Asked
+  DoLine : (line : List ℕ) → Asked
+  RunInput : Asked
 
 abbrev pub asked_by : Option Form → List Word → Option Asked
 asked_by None operands = None
 asked_by (Some (Labels dimm)) operands = Some (LabelsOf dimm)
-asked_by (Some Do) operands = Some (Line (line_of operands))
+asked_by (Some Do) operands = Some (DoLine (line_of operands))
+asked_by (Some Run) operands = Some RunInput
 
 -- what they ask for, and none where they are no form
 abbrev pub asked : List Word → Option Asked
@@ -84,4 +94,5 @@ asked words = asked_by (form_of words) (operands words)
 
 abbrev pub asked_in : Request → Asked
 asked_in (requests.Labels dimm) = LabelsOf dimm
-asked_in (requests.Line line) = Line (string_bytes line)
+asked_in (requests.Line line) = DoLine (string_bytes line)
+asked_in requests.Input = RunInput

@@ -1,16 +1,25 @@
-//! Why a run ends without a reply.
+//! Why a run ends before all of it is done.
 
 ghost use Rattle.std.specs.Prelude.{◌≡◌};
 ghost use Rattle.nd_cli.specs.declared.faults.Fault.TheVariants.{Memory};
-ghost use Rattle.nd_cli.specs.Outcomes.{fault_by, fault_status};
-ghost use Rattle.nd_cli.specs.Statuses.{code_of};
+ghost use Rattle.nd_cli.specs.Faults.{fault_by, fault_of};
+ghost use Rattle.nd_cli.specs.Statuses.{code_of, fault_status};
 
 use crate::statuses::Status;
 use nfit_tables::NfitFault;
 use sessions::OpenFault;
 use std::alloc::AllocError;
 
-/// The first fault of a run, which ends it.
+/// What bytes are read from.
+#[derive(Clone, Copy, Debug, PartialEq, Eq)]
+pub enum SourceName {
+    /// The NFIT.
+    Nfit,
+    /// The lines of `run`.
+    Input,
+}
+
+/// The first fault of a run, which ends it, and whose line is said.
 #[derive(Clone, Copy, Debug, PartialEq, Eq)]
 pub enum Fault {
     /// The words are no form.
@@ -19,15 +28,37 @@ pub enum Fault {
     Nfit(NfitFault),
     /// The rig failed at the area of this module.
     Area { dimm: u32 },
-    /// The source of the NFIT failed.
-    Source,
-    /// The source has more bytes than an NFIT may have.
+    /// The source failed.
+    Source(SourceName),
+    /// The source has more than 1,048,576 bytes.
+    Limit(SourceName),
+    /// Memory was refused.
+    Memory,
+}
+
+/// Why the bytes of a source cannot be had.
+#[derive(Clone, Copy, Debug, PartialEq, Eq)]
+pub enum ReadFault {
+    /// The source failed.
+    Failed,
+    /// It has more than 1,048,576 bytes.
     Limit,
     /// Memory was refused.
     Memory,
 }
 
 impl Fault {
+    /// Why a source is not read.
+    pub fn of(source: SourceName, fault: ReadFault) -> Fault
+        ensures { result ≡ fault_of source fault }
+    {
+        match fault {
+            ReadFault::Failed => Fault::Source(source),
+            ReadFault::Limit => Fault::Limit(source),
+            ReadFault::Memory => Fault::Memory,
+        }
+    }
+
     /// The status of a run that it ends, where its line can be said.
     pub fn status(self) -> Status
         ensures { code_of result ≡ fault_status self }
@@ -36,7 +67,7 @@ impl Fault {
             Fault::Words => Status::Words,
             Fault::Nfit(_) => Status::Nfit,
             Fault::Area { .. } => Status::Area,
-            Fault::Source | Fault::Limit => Status::Source,
+            Fault::Source(_) | Fault::Limit(_) => Status::Source,
             Fault::Memory => Status::Memory,
         }
     }
@@ -47,6 +78,16 @@ impl From<AllocError> for Fault {
 
     fn from(_: AllocError) -> Fault {
         Fault::Memory
+    }
+}
+
+impl From<AllocError> for ReadFault {
+    ghost use Rattle.nd_cli.specs.declared.faults.ReadFault.TheVariants as reads;
+
+    ghost from_gives = { λ _ fault. fault ≡ reads.Memory };
+
+    fn from(_: AllocError) -> ReadFault {
+        ReadFault::Memory
     }
 }
 

@@ -1,17 +1,17 @@
-//! The program `nd`: one command line over the files of a folder.
+//! The program `nd`: commands over the files of a folder.
 #![tactic(auto)]
 
-mod answers;
-mod commands;
 mod faults;
+mod labels;
+mod runs;
+mod saying;
+mod sources;
 mod statuses;
-mod tables;
 mod texts;
 mod top;
-mod uuids;
 mod words;
 
-use rig_trait::{FileRig, FileSource};
+use rig_trait::{FileRig, FileSource, StdSource};
 use statuses::Status;
 use std::alloc::{AllocError, Global};
 use std::env;
@@ -42,7 +42,7 @@ fn main(rt: HostRuntime) -> ExitCode {
     ExitCode::from(status)
 }
 
-/// Runs the arguments over the files, and gives the status.
+/// Runs the arguments over the files and the standard input, and gives the status.
 fn run(rt: HostRuntime) -> Result<u8, StartFault> {
     let alloc = rt.alloc();
     let words = words_of(&rt, alloc)?;
@@ -50,7 +50,8 @@ fn run(rt: HostRuntime) -> Result<u8, StartFault> {
     let dir = words::dir(&words);
     let mut rig = FileRig::new(rt, alloc, dir)?;
     let mut nfit = FileSource::new(rt, alloc, &format!(in alloc; "{dir}/nfit.bin")?)?;
-    Ok(nd_top(alloc, &words, &mut rig, &mut nfit, seed))
+    let mut input = StdSource::new(rt.stdin());
+    Ok(nd_top(alloc, &words, &mut rig, &mut nfit, &mut input, seed))
 }
 
 /// The arguments behind the program's name.

@@ -6,17 +6,17 @@ ghost use Rattle.nd_cli.specs.Statuses.{code_of};
 /// How a run ended.
 #[derive(Clone, Copy, Debug, PartialEq, Eq)]
 pub enum Status {
-    /// The request was accepted, and its reply said.
+    /// All was done, and no reply was a refusal.
     Ok,
-    /// The request was refused.
+    /// All was done, and a reply was a refusal.
     Refused,
     /// The words are no form.
     Words,
-    /// The bytes of the source are no NFIT.
+    /// The bytes of the NFIT's source are none.
     Nfit,
     /// The rig failed at an area.
     Area,
-    /// The source of the NFIT failed, or has too many bytes.
+    /// A source failed, or has too many bytes.
     Source,
     /// Memory was refused.
     Memory,

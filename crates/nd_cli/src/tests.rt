@@ -53,11 +53,48 @@ fn rig_of(alloc: Global, area: &[u8]) -> Result<MemoryRig, AllocError> {
     Ok(rig)
 }
 
-/// Runs a row over a rig, on that platform.
+/// The NFIT of that platform, of whose reads those that are listed fail.
+fn platform(alloc: Global, fail_at: Vec<u64>) -> Result<MemorySource, AllocError> {
+    Ok(MemorySource::new(
+        nfit(alloc, &two_modules(alloc)?)?,
+        fail_at,
+    ))
+}
+
+/// An input of these bytes.
+fn input_of(alloc: Global, text: &str) -> Result<MemorySource, AllocError> {
+    Ok(MemorySource::new(
+        text.as_bytes().to_vec(alloc)?,
+        Vec::new(alloc),
+    ))
+}
+
+/// Runs a row over a rig, on that platform and with no input.
 fn run_on(rt: &impl Abort, alloc: Global, rig: &mut MemoryRig, row: Row) -> Result<(), Fail> {
-    let table = nfit(alloc, &two_modules(alloc)?)?;
-    let mut source = MemorySource::new(table, Vec::new(alloc));
-    run_with(rt, alloc, rig, &mut source, row)
+    let mut source = platform(alloc, Vec::new(alloc))?;
+    let mut input = input_of(alloc, "")?;
+    run_with(rt, alloc, rig, &mut source, &mut input, row)
+}
+
+/// Runs the form `run` with the bytes of an input.
+fn run_input(
+    rt: &impl Abort,
+    alloc: Global,
+    rig: &mut MemoryRig,
+    text: &str,
+    status: u8,
+    said: &str,
+) -> Result<(), Fail> {
+    let mut source = platform(alloc, Vec::new(alloc))?;
+    let mut input = input_of(alloc, text)?;
+    run_with(
+        rt,
+        alloc,
+        rig,
+        &mut source,
+        &mut input,
+        Row("run .", status, said),
+    )
 }
 
 fn run_with(
@@ -65,12 +102,13 @@ fn run_with(
     alloc: Global,
     rig: &mut MemoryRig,
     source: &mut MemorySource,
+    input: &mut MemorySource,
     row: Row,
 ) -> Result<(), Fail> {
     let Row(line, wanted, text) = row;
     let before = rig.said().len();
     let words = words(alloc, line)?;
-    let status = nd_top(alloc, &words, rig, source, 1);
+    let status = nd_top(alloc, &words, rig, source, input, 1);
     let said = rig.said().get(before..).ok_or("nothing is taken back")?;
     assert_eq!(rt; status, wanted, "{words:?}");
     assert_eq!(rt; said, text.as_bytes(), "{words:?}");
@@ -242,7 +280,7 @@ const SOURCE_FAILED: Row<'static> = Row("do . init-labels dimm=1", 5, "error sou
 
 /// The read of the source that fails, the call of the rig that fails, how often the source failed, and what is said.
 /// The NFIT has 280 bytes, which are read by two calls.
-const SOURCES: [(u64, u64, u64, Row); 9] = [
+const SOURCES: [(u64, u64, u64, Row); 11] = [
     (0, 99, 1, SOURCE_FAILED),
     (1, 99, 1, SOURCE_FAILED),
     (0, 0, 1, Row("do . init-labels dimm=1", 7, "")),
@@ -251,6 +289,8 @@ const SOURCES: [(u64, u64, u64, Row); 9] = [
     (0, 99, 1, Row("do . # x", 5, "error source nfit\n")),
     (1, 99, 1, Row("do . x", 5, "error source nfit\n")),
     (0, 99, 0, Row("do .", 2, "error words\n")),
+    (0, 99, 0, Row("run", 2, "error words\n")),
+    (0, 99, 1, Row("run .", 5, "error source nfit\n")),
     (0, 99, 0, Row("labels . 1", 1, UNINIT)),
 ];
 
@@ -260,9 +300,9 @@ fn faults_of_the_source(rt: HostRuntime) -> Result<(), Fail> {
     for (read, call, faults, row) in SOURCES {
         let mut rig = rig_of(alloc, &small_area(alloc, &[ZEROS; 4])?)?;
         rig.fail_at(vec![in alloc; call]?);
-        let bytes = nfit(alloc, &two_modules(alloc)?)?;
-        let mut source = MemorySource::new(bytes, vec![in alloc; read]?);
-        run_with(&rt, alloc, &mut rig, &mut source, row)?;
+        let mut source = platform(alloc, vec![in alloc; read]?)?;
+        let mut input = input_of(alloc, "")?;
+        run_with(&rt, alloc, &mut rig, &mut source, &mut input, row)?;
         assert_eq!(rt; source.faults(), faults);
     }
     Ok(())
@@ -335,8 +375,9 @@ fn seeds(rt: HostRuntime) -> Result<(), Fail> {
     let words = words(alloc, "do . create-namespace region=1 size=4M")?;
     for (seed, uuid) in SEEDS {
         let mut rig = both(alloc)?;
-        let mut source = MemorySource::new(nfit(alloc, &two_modules(alloc)?)?, Vec::new(alloc));
-        assert_eq!(rt; nd_top(alloc, &words, &mut rig, &mut source, seed), 0);
+        let mut source = platform(alloc, Vec::new(alloc))?;
+        let mut input = input_of(alloc, "")?;
+        assert_eq!(rt; nd_top(alloc, &words, &mut rig, &mut source, &mut input, seed), 0);
         assert_eq!(rt; rig.said().get(16..52), Some(uuid.as_bytes()));
     }
     Ok(())
@@ -365,6 +406,108 @@ fn crashes(rt: HostRuntime) -> Result<(), Fail> {
         let torn = if whole { new } else { &ZEROS };
         let mut left = rig.crash(alloc, call, torn)?.ok_or("no record")?;
         run_on(&rt, alloc, &mut left, Row("do . list", 0, said))?;
+    }
+    Ok(())
+}
+
+const MISSING_KEY: &str = "refused words missing key=region\n";
+
+const NONE_HELD: &str = "ok held=0 spare=2\n";
+
+/// The lines of an input, the status, and what is said of two modules without labels. Blank lines and comments have no
+/// reply, and the last line may lack its end.
+const RUNS: [(&str, u8, &str); 8] = [
+    ("", 0, ""),
+    ("\n\n# x\n", 0, ""),
+    ("list", 0, NONE),
+    ("list-free\n", 1, MISSING_KEY),
+    (
+        "list\n\nlist-held dimm=1\n",
+        0,
+        "ok namespaces=0\nok held=0 spare=2\n",
+    ),
+    (
+        "x\n# x\nlist",
+        1,
+        "refused words unknown\nok namespaces=0\n",
+    ),
+    ("list\r\n", 1, "refused words byte at=4\n"),
+    ("list-held dimm=1\n \0\n", 1, "ok held=0 spare=2\nrefused words byte at=1\n"),
+];
+
+#[test]
+fn runs(rt: HostRuntime) -> Result<(), Fail> {
+    let alloc = rt.alloc();
+    for (text, status, said) in RUNS {
+        let mut rig = both(alloc)?;
+        run_input(&rt, alloc, &mut rig, text, status, said)?;
+        assert_eq!(rt; rig.reads(), 4);
+    }
+    Ok(())
+}
+
+/// The lines of an input that are done after what the lines before them left, and a command that says the same by `do`.
+#[test]
+fn run_goes_on(rt: HostRuntime) -> Result<(), Fail> {
+    let alloc = rt.alloc();
+    let mut rig = both(alloc)?;
+    let line = CREATE.get(5..).ok_or("no line")?;
+    let lines = format!(in alloc; "list\n{line}\nlist\n")?;
+    let said = format!(in alloc; "{NONE}{CREATED}{NAMESPACE}")?;
+    run_input(&rt, alloc, &mut rig, &lines, 0, &said)?;
+    let mut other = both(alloc)?;
+    run_on(&rt, alloc, &mut other, Row(CREATE, 0, CREATED))?;
+    assert_eq!(rt; rig.area(1), other.area(1));
+    Ok(())
+}
+
+/// The call that fails, the status, and what is said of two lists. Four calls read the areas.
+const SAYS: [(u64, u8, &str); 4] = [
+    (3, 4, OTHER_FAILED),
+    (4, 7, ""),
+    (5, 7, NONE_HELD),
+    (6, 0, "ok held=0 spare=2\nok held=0 spare=2\n"),
+];
+
+#[test]
+fn faults_of_a_run(rt: HostRuntime) -> Result<(), Fail> {
+    let alloc = rt.alloc();
+    for (call, status, said) in SAYS {
+        let mut rig = both(alloc)?;
+        rig.fail_at(vec![in alloc; call]?);
+        let lines = "list-held dimm=1\nlist-held dimm=0x101\n";
+        run_input(&rt, alloc, &mut rig, lines, status, said)?;
+    }
+    // The fifth write of a create fails, behind the reply to a list. The line behind it is not done.
+    let mut rig = both(alloc)?;
+    rig.fail_at(vec![in alloc; 9]?);
+    let line = CREATE.get(5..).ok_or("no line")?;
+    let lines = format!(in alloc; "list\n{line}\nlist\n")?;
+    let said = format!(in alloc; "{NONE}{OTHER_FAILED}")?;
+    run_input(&rt, alloc, &mut rig, &lines, 4, &said)?;
+    run_on(&rt, alloc, &mut rig, Row("do . list", 0, PENDING))
+}
+
+/// How many bytes the input has, the read of it that fails, how often the areas are read, the status, and what is said.
+/// Up to 4,096 bytes are read at once.
+const INPUTS: [(usize, u64, u64, u8, &str); 4] = [
+    (1_048_576, 999, 4, 1, "refused words too-long\n"),
+    (1_048_577, 999, 0, 5, "error limit input\n"),
+    (4_097, 1, 0, 5, "error source input\n"),
+    (4_096, 2, 4, 0, ""),
+];
+
+#[test]
+fn inputs(rt: HostRuntime) -> Result<(), Fail> {
+    let alloc = rt.alloc();
+    for (size, read, reads, status, said) in INPUTS {
+        let mut rig = both(alloc)?;
+        let mut source = platform(alloc, Vec::new(alloc))?;
+        let comment = vec![in alloc; b'#'; size]?;
+        let mut input = MemorySource::new(comment, vec![in alloc; read]?);
+        let row = Row("run .", status, said);
+        run_with(&rt, alloc, &mut rig, &mut source, &mut input, row)?;
+        assert_eq!(rt; rig.reads(), reads);
     }
     Ok(())
 }

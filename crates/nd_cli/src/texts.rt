@@ -1,9 +1,9 @@
 //! The lines of the faults that end a run. They take no memory.
 
 ghost use Rattle.std.specs.Prelude.{◌≡◌, ◌≤◌, ◌++◌, codes, length};
-ghost use Rattle.nd_cli.specs.Texts.{fault_line, nfit_fault_text};
+ghost use Rattle.nd_cli.specs.Texts.{fault_line, nfit_fault_text, source_name};
 
-use crate::faults::Fault;
+use crate::faults::{Fault, SourceName};
 use nfit_tables::NfitFault;
 use report_json::ShortText;
 
@@ -19,8 +19,14 @@ pub fn fault_line(fault: Fault) -> ShortText
             text.push_text(&nfit_fault_text(fault));
         }
         Fault::Area { dimm } => text.push_handle("error area dimm=", dimm),
-        Fault::Source => text.push_str("error source nfit"),
-        Fault::Limit => text.push_str("error limit nfit"),
+        Fault::Source(source) => {
+            text.push_str("error source ");
+            text.push_str(source_name(source));
+        }
+        Fault::Limit(source) => {
+            text.push_str("error limit ");
+            text.push_str(source_name(source));
+        }
         Fault::Memory => text.push_str("error memory"),
     }
     text.push_str("\n");
@@ -50,4 +56,13 @@ fn nfit_fault_text(fault: NfitFault) -> ShortText
         NfitFault::TooMany { kind } => text.push_decimal("too-many kind=", u64::from(kind)),
     }
     text
+}
+
+fn source_name(source: SourceName) -> &'static str
+    ensures { result.now ≡ source_name source }
+{
+    match source {
+        SourceName::Nfit => "nfit",
+        SourceName::Input => "input",
+    }
 }

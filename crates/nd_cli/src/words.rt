@@ -4,7 +4,7 @@ ghost use Rattle.std.specs.Prelude.{◌≡◌, ◌++◌, IfOk, IsErr, IsSome, sl
 ghost use Rattle.std.specs.Option.{option_copied, option_map};
 ghost use Rattle.std.specs.List.{after_first, before_first};
 ghost use Rattle.std.specs.String.{string_bytes};
-ghost use Rattle.nd_cli.specs.Words.{asked, asked_in, dir_of, do_form, form_in, handle, is_dashes, is_option, labels_form, line_of, operands_form};
+ghost use Rattle.nd_cli.specs.Words.{asked, asked_in, dir_of, do_form, form_in, handle, is_dashes, is_option, labels_form, line_of, operands_form, run_form};
 
 use cmd_words::read_number;
 use std::alloc::{AllocError, Global};
@@ -16,6 +16,8 @@ pub enum Request {
     Labels { dimm: u32 },
     /// `do DIR WORD...`: what the line says is done. It is the words behind the folder, with a space between each two.
     Line(String),
+    /// `run DIR`: what each line of the input says is done.
+    Input,
 }
 
 /// The forms of command lines.
@@ -23,6 +25,7 @@ pub enum Request {
 enum Form {
     Labels { dimm: u32 },
     Do,
+    Run,
 }
 
 impl Request {
@@ -36,6 +39,7 @@ impl Request {
             None => Ok(None),
             Some(Form::Labels { dimm }) => Ok(Some(Request::Labels { dimm })),
             Some(Form::Do) => Ok(Some(Request::Line(line(alloc, front, back)?))),
+            Some(Form::Run) => Ok(Some(Request::Input)),
         }
     }
 }
@@ -105,6 +109,7 @@ fn by_command(front: &[String], back: &[String]) -> Option<Form>
 {
     match operand(front, back, 0)? {
         "do" => do_words(front, back),
+        "run" => run_words(front, back),
         _ => labels(front, back),
     }
 }
@@ -114,6 +119,17 @@ fn do_words(front: &[String], back: &[String]) -> Option<Form>
     ensures { result ≡ do_form (front.now ++ back.now) }
 {
     operand(front, back, 2).map(|_| Form::Do)
+}
+
+/// The form `run DIR`, wherever a `--` parts its words.
+fn run_words(front: &[String], back: &[String]) -> Option<Form>
+    ensures { result ≡ run_form (front.now ++ back.now) }
+{
+    operand(front, back, 1)?;
+    match operand(front, back, 2) {
+        Some(_) => None,
+        None => Some(Form::Run),
+    }
 }
 
 /// The form `labels DIR HANDLE`, wherever a `--` parts its words.
@@ -203,6 +219,30 @@ mod tests {
         }
         assert!(rt; Request::of(rt.alloc(), &[])?.is_none());
         assert_eq!(rt; dir(&[]), ".");
+        Ok(())
+    }
+
+    /// Words, and whether they are the form `run`.
+    #[test]
+    fn run_tests(rt: HostRuntime) -> Result<(), Fail> {
+        let lines = [
+            ("run pm", true),
+            ("run", false),
+            ("run pm x", false),
+            ("run -- -x", true),
+            ("run -x", false),
+            ("run pm --", true),
+            ("run pm -- ", false),
+            ("run -", true),
+            ("-- run pm", true),
+            ("Run pm", false),
+            ("runs pm", false),
+        ];
+        for (line, wanted) in lines {
+            let words = split_at_spaces(rt.alloc(), line)?;
+            let is_run = matches!(Request::of(rt.alloc(), &words)?, Some(Request::Input));
+            assert_eq!(rt; is_run, wanted, "at {line}");
+        }
         Ok(())
     }
 

@@ -1,43 +1,27 @@
-use Rattle.std.proofs.Common.{◌≡◌, Ok, Err, Some, None, true, refl, sym, subst, ◌∙◌}
-use Rattle.label_listing.specs.Listing.{loaded_listing}
-use Rattle.nd_cli.specs.declared.answers.Answer.TheVariants.{Labels, Reply}
-use Rattle.nd_cli.specs.Outcomes.{ComesUnsaid, Ends, Tells, outcome_of}
-use Rattle.nd_cli.specs.Words.{asked}
-use Rattle.nd_cli.proofs.Ends.{ends_fault, ends_listed, ends_reply, ends_unlisted}
-use Rattle.nd_cli.proofs.Endings.{silent}
+use Rattle.std.proofs.Common.{◌≡◌, ℕ, List, Some, refl, sym, ap, subst, ◌∙◌}
+use Rattle.std.specs.Option.{option_map}
+use Rattle.std.specs.String.{string_bytes}
+use Rattle.nd_cli.specs.declared.words.Request.TheVariants.{Line, Input}
+use Rattle.nd_cli.specs.Ends.{Ends, EndsLine}
+use Rattle.nd_cli.specs.Words.{DoLine, RunInput, asked, asked_in}
+use Rattle.nd_cli.proofs.Requests.{unasked}
 use Rattle.nd_cli.proofs.top.nd_top.Goals as goal
 
-pub returns-in-Ok-clause-ends : goal.returns-in-Ok-clause-ends
-returns-in-Ok-clause-ends g c =
-    let is : c.run.result ≡ Ok (Labels c.in-Ok-Labels.area) = cc in
-    let comes = subst (λ done. ComesUnsaid g.R.Shown g.N.Source c.args.seed (asked c.args.words.now) c.args.rig.now c.run.new.rig c.args.nfit.now c.run.new.nfit (outcome_of done)) is c.run.ensures.came in
-    ends_listed g.R.Shown g.N.Source c.args.seed (asked c.args.words.now) c.args.rig.now c.run.new.rig c.say.new.rig c.args.nfit.now c.run.new.nfit c.in-Ok-Labels.area c.say.result comes
-    (subst (λ text. Tells g.R.Shown c.run.new.rig c.say.new.rig text 0 c.say.result) (c.as_bytes.ensures.value ∙ c.in-Ok.ensures) c.say.ensures)
+pub returns-in-Ok-Some-Line-clause-ends : goal.returns-in-Ok-Some-Line-clause-ends
+returns-in-Ok-Some-Line-clause-ends g c =
+    let line = c.in-Ok-Some-Line.line in
+    let request : c.in-Ok-Some-Line.field-0 ≡ Some (Line line) = cc in
+    let is : asked c.args.words.now ≡ Some (DoLine (string_bytes line)) = sym c.in-Ok-Some-Line.ensures.request ∙ ap (λ r. option_map asked_in r) request in
+    subst (λ a. Ends g.R.Shown g.N.Source g.I.Source c.args.seed a c.args.rig.now c.do_line.new.rig c.args.nfit.now c.do_line.new.nfit c.args.input.now c.args.input.now c.do_line.result) (sym is)
+    (subst (λ (bytes : List ℕ). EndsLine g.R.Shown g.N.Source c.args.seed bytes c.args.rig.now c.do_line.new.rig c.args.nfit.now c.do_line.new.nfit c.do_line.result) c.deref.ensures c.do_line.ensures.ends)
 
-pub returns-in-Ok-Labels-clause-ends : goal.returns-in-Ok-Labels-clause-ends
-returns-in-Ok-Labels-clause-ends g c =
-    let is : c.run.result ≡ Ok (Labels c.in-Ok-Labels.area) = cc in
-    let comes = subst (λ done. ComesUnsaid g.R.Shown g.N.Source c.args.seed (asked c.args.words.now) c.args.rig.now c.run.new.rig c.args.nfit.now c.run.new.nfit (outcome_of done)) is c.run.ensures.came in
-    ends_unlisted g.R.Shown g.N.Source c.args.seed (asked c.args.words.now) c.args.rig.now c.run.new.rig c.say_fault.new.rig c.args.nfit.now c.run.new.nfit true (loaded_listing c.in-Ok-Labels.area) c.say_fault.result comes
-    (c.run.ensures.unwritten (rw is refl)) c.say_fault.ensures
+pub returns-in-Ok-Some-Input-clause-ends : goal.returns-in-Ok-Some-Input-clause-ends
+returns-in-Ok-Some-Input-clause-ends g c =
+    let request : c.in-Ok-Some-Input.field-0 ≡ Some Input = cc in
+    let is : asked c.args.words.now ≡ Some RunInput = sym c.in-Ok-Some-Input.ensures.request ∙ ap (λ r. option_map asked_in r) request in
+    subst (λ a. Ends g.R.Shown g.N.Source g.I.Source c.args.seed a c.args.rig.now c.run_input.new.rig c.args.nfit.now c.run_input.new.nfit c.args.input.now c.run_input.new.input c.run_input.result) (sym is) c.run_input.ensures.ends
 
-pub returns-in-Ok-Reply-None-clause-ends : goal.returns-in-Ok-Reply-None-clause-ends
-returns-in-Ok-Reply-None-clause-ends g c =
-    let is : c.run.result ≡ Ok (Reply None) = cc in
-    let comes = subst (λ done. ComesUnsaid g.R.Shown g.N.Source c.args.seed (asked c.args.words.now) c.args.rig.now c.run.new.rig c.args.nfit.now c.run.new.nfit (outcome_of done)) is c.run.ensures.came in
-    subst (λ status. Ends g.R.Shown g.N.Source c.args.seed (asked c.args.words.now) c.args.rig.now c.run.new.rig c.args.nfit.now c.run.new.nfit status) (sym c.code.ensures)
-    (silent g.R.Shown g.N.Source c.args.seed (asked c.args.words.now) c.args.rig.now c.run.new.rig c.args.nfit.now c.run.new.nfit comes)
-
-pub returns-in-Ok-Reply-Some-clause-ends : goal.returns-in-Ok-Reply-Some-clause-ends
-returns-in-Ok-Reply-Some-clause-ends g c =
-    let is : c.run.result ≡ Ok (Reply (Some c.in-Ok-Reply-Some.reply)) = cc in
-    let comes = subst (λ done. ComesUnsaid g.R.Shown g.N.Source c.args.seed (asked c.args.words.now) c.args.rig.now c.run.new.rig c.args.nfit.now c.run.new.nfit (outcome_of done)) is c.run.ensures.came in
-    ends_reply g.R.Shown g.N.Source c.args.seed (asked c.args.words.now) c.args.rig.now c.run.new.rig c.say_reply.new.rig c.args.nfit.now c.run.new.nfit c.in-Ok-Reply-Some.reply c.say_reply.result comes
-    (λ none. c.run.ensures.unwritten (rw is none)) c.say_reply.ensures
-
-pub returns-clause-ends : goal.returns-clause-ends
-returns-clause-ends g c =
-    let is : c.run.result ≡ Err c.in-Err.fault = cc in
-    let comes = subst (λ done. ComesUnsaid g.R.Shown g.N.Source c.args.seed (asked c.args.words.now) c.args.rig.now c.run.new.rig c.args.nfit.now c.run.new.nfit (outcome_of done)) is c.run.ensures.came in
-    ends_fault g.R.Shown g.N.Source c.args.seed (asked c.args.words.now) c.args.rig.now c.run.new.rig c.say_fault-in-Err.new.rig c.args.nfit.now c.run.new.nfit c.in-Err.fault c.say_fault-in-Err.result comes
-    (λ none. c.run.ensures.unwritten (rw is none)) c.say_fault-in-Err.ensures
+pub returns-in-Err-clause-ends : goal.returns-in-Err-clause-ends
+returns-in-Err-clause-ends g c =
+    unasked g.R.Shown g.N.Source g.I.Source c.args.seed (asked c.args.words.now) c.args.rig.now c.say_fault-in-Err.new.rig c.args.nfit.now c.args.input.now c.say_fault-in-Err.result
+    (c.in-Err.ensures.memory refl) c.say_fault-in-Err.ensures

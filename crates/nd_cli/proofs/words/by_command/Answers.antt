@@ -1,4 +1,4 @@
-use Rattle.std.proofs.Common.{◌≡◌, Some, List, ℕ, [], ◌∷◌, ◌++◌, codes, slice_get, ap, sym, ◌∙◌}
+use Rattle.std.proofs.Common.{◌≡◌, true, false, Some, List, ℕ, [], ◌∷◌, ◌++◌, codes, slice_get, ap, sym, ◌∙◌}
 use Rattle.std.specs.Option.{option_map}
 use Rattle.std.specs.Str.{bytes_eq}
 use Rattle.std.specs.String.{string_bytes}
@@ -14,12 +14,26 @@ is_command_is name (word ∷ words) command first =
     let is : string_bytes word ≡ command = cc in
     ap (λ text. bytes_eq text name) is
 
+-- the word is another than this name
+other : (name : List ℕ) (words : List Word) (command : List ℕ) → Some command ≡ option_map string_bytes (slice_get words 0) → ¬ (command ≡ name) → is_command name words ≡ false
+other name words command first differs =
+    is_command_is name words command first ∙ false_from_ne_true _ (λ same. differs ((bytes_eq-Decides _ _).0 same))
+
+the_same : (name : List ℕ) (words : List Word) (command : List ℕ) → Some command ≡ option_map string_bytes (slice_get words 0) → command ≡ name → is_command name words ≡ true
+the_same name words command first is = is_command_is name words command first ∙ (bytes_eq-Decides _ _).1 is
+
 pub returns-in-do : goal.returns-in-do
 returns-in-do c =
-    let test = is_command_is (codes "do") (c.args.front.now ++ c.args.back.now) _ c.in_ok-operand.ensures in
-    c.do_words.ensures ∙ sym (cond-true _ _ _ (test ∙ (bytes_eq-Decides _ _).1 c.in-do.is))
+    c.do_words.ensures ∙ sym (cond-true _ _ _ (the_same (codes "do") (c.args.front.now ++ c.args.back.now) _ c.in_ok-operand.ensures c.in-do.is))
+
+pub returns-in-run : goal.returns-in-run
+returns-in-run c =
+    let words = c.args.front.now ++ c.args.back.now in
+    c.run_words.ensures ∙ sym (cond-true _ _ _ (the_same (codes "run") words _ c.in_ok-operand.ensures c.in-run.is))
+    ∙ sym (cond-false _ _ _ (other (codes "do") words _ c.in_ok-operand.ensures c.in-run.not-do))
 
 pub returns-in_default : goal.returns-in_default
 returns-in_default c =
-    let test = is_command_is (codes "do") (c.args.front.now ++ c.args.back.now) _ c.in_ok-operand.ensures in
-    c.labels.ensures ∙ sym (cond-false _ _ _ (test ∙ false_from_ne_true _ (λ same. c.in_default.not-do ((bytes_eq-Decides _ _).0 same))))
+    let words = c.args.front.now ++ c.args.back.now in
+    c.labels.ensures ∙ sym (cond-false _ _ _ (other (codes "run") words _ c.in_ok-operand.ensures c.in_default.not-run))
+    ∙ sym (cond-false _ _ _ (other (codes "do") words _ c.in_ok-operand.ensures c.in_default.not-do))

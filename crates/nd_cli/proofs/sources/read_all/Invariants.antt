@@ -1,7 +1,7 @@
 use Rattle.std.proofs.Common.{◌≡◌, ◌≤◌, ◌++◌, false, vec_len}
 use Rattle.rig_trait.specs.Sources.{Draws, TellsLeft}
 use Rattle.nfit_tables.specs.Limits.{most_bytes}
-use Rattle.nd_cli.proofs.tables.read_all.Given as goal
+use Rattle.nd_cli.proofs.sources.read_all.Given as goal
 
 abbrev pub invariant-loop : goal.invariant-loop
 invariant-loop g l = record {

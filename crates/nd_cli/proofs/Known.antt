@@ -1,0 +1,85 @@
+-- What is promised where one thing is known is promised where another is, from which it follows.
+use Rattle.std.proofs.Common.{◌≡◌, ◌⊎◌, ℕ, zero, suc, List, ◌++◌, Option, Some, None, Result, Ok, Err, inl, inr, ⊎_elim, false}
+use Rattle.cmd_words.specs.declared.commands.Command.{Command}
+use Rattle.cmd_words.specs.declared.commands.Command.TheVariants.{InitLabels, Create, ListSpaces, ListRegions, ListFree, ListHeld}
+use Rattle.cmd_words.specs.declared.commands.Command.TheVariants.{ToModule, ToSpa, ToRuns}
+use Rattle.cmd_words.specs.Lines.{command_in}
+use Rattle.label_area.specs.Fair.{IsFair}
+use Rattle.label_table.specs.Tables.{State}
+use Rattle.region_map.specs.declared.platform.Platform.{Platform}
+use Rattle.rig_trait.specs.Areas.{Areas}
+use Rattle.rig_trait.specs.Records.{CrashRecord}
+use Rattle.sessions.specs.Commands.{SaysIfKnown, has_module}
+use Rattle.view_types.specs.declared.reply.Reply.{Reply}
+use Rattle.view_types.specs.declared.word_fault.WordFault.{WordFault}
+use Rattle.command_runs.specs.Runs.{DoesCommand, DoesLine, DoesNext, Follows, IsBehind, Progress, Run}
+use Rattle.command_runs.specs.Stops.{HasNextTable, IsBetween, IsLeft, SaysPart}
+
+module _ (known now : Type 0) (knows : now → known) where
+  says-known : (platform : Platform) (command : Command) (fact : Type 0) → SaysIfKnown platform command known fact → SaysIfKnown platform command now fact
+  says-known platform (InitLabels dimm) fact says = λ why. says (⊎_elim (λ is. inl (knows is)) inr why)
+  says-known platform (Create region size name abstraction sector uuid) fact says = says
+  says-known platform (ListSpaces region) fact says = says
+  says-known platform ListRegions fact says = says
+  says-known platform (ListFree region) fact says = says
+  says-known platform (ListHeld dimm) fact says = says
+  says-known platform (ToModule region spa) fact says = says
+  says-known platform (ToSpa region dimm dpa) fact says = says
+  says-known platform (ToRuns region spa len) fact says = says
+
+  module _ (run : Run) where
+    line-known : (number : ℕ) (before : State) (line : Result (Option Command) WordFault) (reply : Option Reply) (after : State)
+        → DoesLine known run number before line reply after → DoesLine now run number before line reply after
+    line-known number before (Ok (Some command)) (Some reply) after does =
+        record { labels = does.labels; stands = does.stands; does = says-known run.platform command _ does.does }
+    line-known number before (Ok (Some command)) None after does = does
+    line-known number before (Ok None) reply after does = does
+    line-known number before (Err fault) reply after does = does
+
+    pub next-known : (k : ℕ) (before next : Progress) → DoesNext known run k before next → DoesNext now run k before next
+    next-known k before next does = record {
+      line = does.line;
+      is_next = does.is_next;
+      reply = does.reply;
+      does = line-known _ before.state (command_in does.line) does.reply next.state does.does;
+      said_is = does.said_is;
+      refused_is = does.refused_is;
+      changed_is = does.changed_is;
+    }
+
+    pub behind-known : (k : ℕ) (progress : Progress) → IsBehind known run k progress → IsBehind now run k progress
+    behind-known zero progress behind = behind
+    behind-known (suc k) progress behind = record {
+      before = behind.before;
+      was = behind-known k behind.before behind.was;
+      one = next-known k behind.before progress behind.one;
+    }
+
+    pub next_table-known : (k : ℕ) (progress : Progress) (areas : Areas) → HasNextTable known run k progress areas → HasNextTable now run k progress areas
+    next_table-known k progress areas has = record { next = has.next; does = next-known k progress has.next has.does; table_is = has.table_is }
+
+    between-known : (k : ℕ) (progress : Progress) (said : List ℕ) (c : CrashRecord) → IsBetween known run k progress said c → IsBetween now run k progress said c
+    between-known k progress said c left = record {
+      said_is = left.said_is;
+      areas_are = λ fair. ⊎_elim inl (λ next. inr (next_table-known k progress c.areas next)) (left.areas_are fair);
+    }
+
+    part-known : (k : ℕ) (progress : Progress) (said : List ℕ) (c : CrashRecord) → SaysPart known run k progress said c → SaysPart now run k progress said c
+    part-known k progress said c left = record {
+      next = left.next;
+      does = next-known k progress left.next left.does;
+      text = left.text;
+      text_is = left.text_is;
+      count = left.count;
+      part = left.part;
+      said_is = left.said_is;
+      areas_are = left.areas_are;
+    }
+
+    pub left-known : (said : List ℕ) (c : CrashRecord) → IsLeft known run said c → IsLeft now run said c
+    left-known said c left = record {
+      acknowledged = left.acknowledged;
+      progress = left.progress;
+      behind = behind-known left.acknowledged left.progress left.behind;
+      left = ⊎_elim (λ between. inl (between-known left.acknowledged left.progress said c between)) (λ part. inr (part-known left.acknowledged left.progress said c part)) left.left;
+    }
