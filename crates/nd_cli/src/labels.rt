@@ -43,7 +43,11 @@ fn say_unlisted<R: Rig>(rig: &mut R, dimm: u32, fault: AreaFault) -> u8
         AreaFault::Failed => return say_fault(rig, Fault::Area { dimm }),
         AreaFault::Memory => return say_fault(rig, Fault::Memory),
     };
-    say(rig, refusal_line(not_ready(dimm, kind)).as_bytes(), Status::Refused)
+    say(
+        rig,
+        refusal_line(not_ready(dimm, kind)).as_bytes(),
+        Status::Refused,
+    )
 }
 
 /// Why what needs a Ready area is not done with one of this kind.
