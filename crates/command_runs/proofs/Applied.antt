@@ -1,5 +1,5 @@
 -- A line as it is answered on a session.
-use Rattle.std.proofs.Common.{◌≡◌, ◌≢◌, ◌⊎◌, inl, inr, ⊎_elim, ℕ, ◌||◌, eqb, eqb-true, eq-eqb, Bool, true, false, not, List, [], ◌∷◌, Option, Some, None, Result, Ok, Err, IfErr, IfOk, OnOk, map, refl, sym, ap, ◌∙◌, subst}
+use Rattle.std.proofs.Common.{◌≡◌, ◌≢◌, ◌⊎◌, inl, inr, ⊎_elim, ℕ, ◌||◌, eqb, eqb-true, eq-eqb, Bool, true, false, not, List, [], ◌∷◌, Some, Result, Ok, Err, IfErr, IfOk, OnOk, map, refl, sym, ap, ◌∙◌, subst}
 use Rattle.std.specs.FinMap.{get}
 use Rattle.std.proofs.lemmas.Bool.{cases_eq}
 use Rattle.rig_trait.specs.declared.shown.Shown.{Ghosts}
@@ -7,7 +7,7 @@ use Rattle.rig_trait.specs.Areas.{Areas}
 use Rattle.rig_trait.specs.Frames.{LeavesOnly, Reads}
 use Rattle.rig_trait.specs.Records.{CrashRecord}
 use Rattle.rig_trait.proofs.Frames.{reading}
-use Rattle.rig_trait.proofs.Moments.{started, weakened}
+use Rattle.rig_trait.proofs.Moments.{weakened}
 use Rattle.cmd_words.specs.declared.commands.Command.{Command}
 use Rattle.cmd_words.specs.declared.commands.Command.TheVariants.{InitLabels}
 use Rattle.label_area.specs.Flips.{is_among}
@@ -23,25 +23,20 @@ use Rattle.module_labels.specs.declared.kind.AreaKind.TheVariants as kinds
 use Rattle.region_map.specs.declared.platform.Platform.{Platform}
 use Rattle.region_sets.specs.Modules.{dimm_of, size_in}
 use Rattle.sessions.specs.Commands.{Does, HasAreas, IsBeforeOrAfter, LeavesArea, SaysIfKnown, has_module, is_change, is_init, may_change, written_by}
-use Rattle.sessions.specs.Faults.{HasRunCause, IsRunAmong, IsRunAt, IsSpent, spent_after}
+use Rattle.sessions.specs.Faults.{HasRunCause, IsRunAmong, IsRunAt, spent_after}
 use Rattle.sessions.specs.Sessions.{IsCurrent, StoredSession, labels_of, slots_of, state_of}
 use Rattle.sessions.specs.declared.faults.RunFault.{RunFault}
 use Rattle.sessions.specs.declared.faults.RunFault.TheVariants as faults
-use Rattle.sessions.proofs.Telling.{no_call}
 use Rattle.table_steps.specs.Changes.{IsDoneBy}
 use Rattle.table_steps.specs.Initialise.{IsInitialised, already_ready, cannot_initialise}
 use Rattle.table_steps.specs.Refusals.{first_of, refused_if}
 use Rattle.view_types.specs.declared.refusal.Refusal.TheVariants.{UnknownDimm}
 use Rattle.view_types.specs.declared.reply.Reply.{Reply}
-use Rattle.view_types.specs.declared.word_fault.WordFault.{WordFault}
-use Rattle.command_runs.specs.declared.faults.LineFault.{LineFault}
-use Rattle.command_runs.specs.Areas.{IsWritten, KeepsAreas, LeavesAreas, LeavesLabels, MayInitialise, OnlyTells, changed_by_command, changed_by_line, initialised_by_command, initialised_by_line}
+use Rattle.command_runs.specs.Areas.{IsWritten, KeepsAreas, LeavesAreas, LeavesLabels, MayInitialise, changed_by_command, initialised_by_command}
 use Rattle.command_runs.specs.Faults.{HasAreaFaults, IsAmong, fails_at, is_area, is_say}
-use Rattle.command_runs.specs.Runs.{is_change_if}
-use Rattle.command_runs.specs.Turns.{Answers, DoesOn, LeftUnsaid, answer_by, may_have_changed}
+use Rattle.command_runs.specs.Turns.{Answers, DoesOn, LeftUnsaid, answer_by}
 use Rattle.command_runs.specs.Uuids.{own_uuid}
 use Rattle.command_runs.proofs.Commands.{not-init, says-fact, unchanged}
-use Rattle.command_runs.proofs.Records.{table-is}
 
 -- What a session promises of a command.
 pub record HasApplied {R : Type 0} (m : Ghosts R) (session : StoredSession) (command : Command) (own : List ℕ) (old : R) (now : StoredSession) (new : R) (result : Result Reply RunFault) : Type 0 where
@@ -255,28 +250,3 @@ module _ {R : Type 0} (m : Ghosts R) (session : StoredSession) (seed number : �
       dimms = has.dimms;
       sizes = has.sizes;
     }
-
--- A line that does nothing.
-module _ {R : Type 0} (m : Ghosts R) (session : StoredSession) (seed number : ℕ) (line : Result (Option Command) WordFault) (rig : R) (reply : Option Reply) where
-  pub answers-alone : session.spent ≡ false → is_change_if reply ≡ false → DoesOn (IsCurrent m rig session) session seed number line reply (state_of session) → Answers m session seed number line rig session rig (Ok reply)
-  answers-alone unspent none does = record {
-    does = does;
-    current = λ current. current;
-    any_moment = λ current. started rig (LeftUnsaid (IsCurrent m rig session) session seed number line (m.said rig)) (λ c left. record {
-      said_is = (m.now_is rig c left).1;
-      areas_are = λ fair. inl (table-is {m = m} rig session c.areas current (m.now_is rig c left).0);
-    });
-    kept = λ quiet. refl;
-    reads_only = λ quiet. no_call m rig;
-    bytes = λ current q other. inl refl;
-    bytes_left = λ current fits. reading (LeavesAreas session.platform (initialised_by_line session.platform line) (m.areas rig)) (λ c same said q. inl (ap (λ (a : Areas). get a q) same)) (no_call m rig);
-    nothing = record { said = refl; say_faults = refl; goes_on = (no_call m rig).goes_on };
-    cause = record { faults = refl; failed_dimm = refl };
-    not_say = refl;
-    among = tt;
-    reads = λ no_init. refl;
-    spends = unspent;
-    platform = refl;
-    dimms = refl;
-    sizes = refl;
-  }

@@ -6,7 +6,7 @@ use Rattle.region_map.specs.declared.platform.Platform.{Platform}
 use Rattle.report_json.specs.Texts.{is_one_line}
 use Rattle.sessions.specs.declared.faults.RunFault.{RunFault}
 use Rattle.sessions.specs.declared.faults.RunFault.TheVariants as faults
-use Rattle.sessions.specs.Commands.{SaysIfKnown, has_module, is_change, is_init, may_change, result_changes, written_by}
+use Rattle.sessions.specs.Commands.{SaysIfKnown, is_change, is_init, may_change, result_changes}
 use Rattle.view_types.specs.declared.reply.Reply.{Reply}
 use Rattle.view_types.specs.declared.reply.Reply.TheVariants as replies
 use Rattle.command_runs.specs.Areas.{initialised_by_command}

@@ -1,37 +1,23 @@
 -- A run ends.
-use Rattle.std.proofs.Common.{◌≡◌, inl, ℕ, ◌+◌, Bool, true, List, ◌++◌, Some, Result, Ok, Err, length, take, refl, sym, ap, ◌∙◌, subst, append_assoc}
+use Rattle.std.proofs.Common.{◌≡◌, inl, ℕ, ◌+◌, Bool, List, ◌++◌, Some, Err, take, refl, sym, ap, ◌∙◌, subst}
 use Rattle.std.specs.Prelude.{slice_get}
 use Rattle.std.proofs.lemmas.Option.{slice_get_within}
 use Rattle.rig_trait.specs.declared.shown.Shown.{Ghosts}
-use Rattle.rig_trait.specs.Faults.{counted}
 use Rattle.rig_trait.specs.Frames.{Reads}
-use Rattle.rig_trait.specs.Records.{CrashRecord}
 use Rattle.cmd_words.specs.Lines.{command_in}
 use Rattle.label_table.specs.Tables.{State}
 use Rattle.region_map.specs.declared.platform.Platform.{Platform}
-use Rattle.sessions.specs.Commands.{has_module}
 use Rattle.sessions.specs.Sessions.{IsCurrent, StoredSession, state_of}
 use Rattle.command_runs.specs.declared.faults.LineFault.{LineFault}
 use Rattle.command_runs.specs.declared.faults.LineFault.TheVariants.{Area, Memory, Say}
 use Rattle.command_runs.specs.Ends.{Ends, IsEndedBy, IsStopped, IsThrough, run_of}
-use Rattle.command_runs.specs.Faults.{HasAreaFaults, HasCause, IsAmong, is_say}
-use Rattle.command_runs.specs.Runs.{IsBehind, is_change_if, text_if}
+use Rattle.command_runs.specs.Runs.{is_change_if, text_if}
 use Rattle.command_runs.specs.Stops.{HasTable}
 use Rattle.command_runs.specs.Turns.{Turns}
 use Rattle.command_runs.proofs.Going.{IsGoing, both-false, left-between, next-does, with_reply}
 use Rattle.command_runs.proofs.Records.{read-only, still-current, table-is, writes-nothing}
 
 module _ {R : Type 0} (m : Ghosts R) (start : StoredSession) (seed : ℕ) (lines : List (List ℕ)) (old : R) (k : ℕ) (session : StoredSession) (mid : R) (refused : Bool) (going : IsGoing m start seed lines old k session mid refused) where
-  -- behind the last line
-  pub finished : k ≡ length lines → Ends m (IsCurrent m old start) (run_of start seed lines) old mid session (Ok refused)
-  finished all = record {
-    progress = going.progress;
-    behind = subst (λ (n : ℕ). IsBehind (IsCurrent m old start) (run_of start seed lines) n going.progress) all going.behind;
-    refused_is = going.refused_is;
-    through = going.through;
-    kept = going.kept;
-  }
-
   module _ (line : List ℕ) (is_next : slice_get lines k ≡ Some line) (now : StoredSession) (new : R) where
     -- want of memory
     unread-through : now ≡ session → Reads m mid new → IsThrough m (IsCurrent m old start) going.progress (m.said old) new now
@@ -88,15 +74,3 @@ module _ {R : Type 0} (m : Ghosts R) (start : StoredSession) (seed : ℕ) (lines
       behind = going.behind;
       ended = ended-by fault turn;
     }
-
-    -- the first fault
-    pub caused : (fault : LineFault) → Turns m session seed (k + 1) (command_in line) mid now new (Err fault) → HasCause {T = Bool} m old new (Err fault)
-    caused fault turn = record { areas = by fault turn.cause.areas; says = turn.cause.says ∙ ap (counted (is_say {T = Bool} (Err fault))) going.say_faults }
-      where
-        by : (fault : LineFault) → HasAreaFaults {T = Bool} m mid new (Err fault) → HasAreaFaults {T = Bool} m old new (Err fault)
-        by (Area dimm) is = record { faults = is.faults ∙ ap (counted true) going.faults.faults; failed_dimm = is.failed_dimm }
-        by Memory is = record { faults = is.faults ∙ going.faults.faults; failed_dimm = is.failed_dimm ∙ going.faults.failed_dimm }
-        by Say is = record { faults = is.faults ∙ going.faults.faults; failed_dimm = is.failed_dimm ∙ going.faults.failed_dimm }
-
-    pub among : (fault : LineFault) → Turns m session seed (k + 1) (command_in line) mid now new (Err fault) → IsAmong {T = Bool} (has_module start.platform) (Err fault)
-    among fault turn = subst (λ (platform : Platform). IsAmong {T = Bool} (has_module platform) (Err fault)) going.platform turn.among

@@ -1,5 +1,5 @@
 -- A run goes on by one line.
-use Rattle.std.proofs.Common.{◌≡◌, ◌⊎◌, inl, inr, ⊎_elim, ℕ, zero, suc, ◌+◌, ◌<◌, ◌≤◌, Bool, true, false, ◌||◌, List, [], ◌++◌, Option, Some, None, Result, Ok, Err, length, map, take, refl, sym, ap, ◌∙◌, subst, append_assoc, arith}
+use Rattle.std.proofs.Common.{◌≡◌, ◌⊎◌, inl, inr, ⊎_elim, ℕ, suc, ◌+◌, Bool, true, false, ◌||◌, List, [], ◌++◌, Option, Some, None, Result, Ok, Err, length, map, take, refl, sym, ap, ◌∙◌, subst, append_assoc}
 use Rattle.std.specs.Prelude.{slice_get}
 use Rattle.std.specs.List.{All}
 use Rattle.std.proofs.Math.Dec.{ltb}
@@ -14,7 +14,6 @@ use Rattle.rig_trait.proofs.Frames.{goes_on, reading}
 use Rattle.rig_trait.proofs.Moments.{joined, started, weakened}
 use Rattle.cmd_words.specs.declared.commands.Command.{Command}
 use Rattle.cmd_words.specs.Lines.{command_in}
-use Rattle.label_area.specs.Fair.{IsFair}
 use Rattle.label_table.specs.Tables.{State, state}
 use Rattle.module_flips.specs.Flips.{IsSizedIn}
 use Rattle.module_labels.specs.Labels.{Labels}
@@ -22,7 +21,7 @@ use Rattle.namespace_staging.proofs.Flips.{sized-on}
 use Rattle.region_map.specs.declared.platform.Platform.{Platform}
 use Rattle.region_sets.specs.Modules.{dimm_of, size_in}
 use Rattle.sessions.specs.Commands.{Does, SaysIfKnown}
-use Rattle.sessions.specs.Sessions.{IsCurrent, StoredSession, labels_of, slots_of, state_of}
+use Rattle.sessions.specs.Sessions.{IsCurrent, StoredSession, slots_of, state_of}
 use Rattle.sessions.proofs.Telling.{no_call}
 use Rattle.view_types.specs.declared.reply.Reply.{Reply}
 use Rattle.view_types.specs.declared.word_fault.WordFault.{WordFault}
@@ -31,8 +30,8 @@ use Rattle.command_runs.specs.Areas.{KeepsAreas, KeepsBytes, LeaveLabels, Leaves
 use Rattle.command_runs.specs.Ends.{IsThrough, run_of}
 use Rattle.command_runs.specs.Faults.{fails_at}
 use Rattle.command_runs.specs.Runs.{DoesLine, DoesNext, IsBehind, Progress, Run, at_start, is_change_if, is_refusal_if, text_if}
-use Rattle.command_runs.specs.Stops.{HasNextTable, HasTable, IsBetween, IsLeft, SaysPart}
-use Rattle.command_runs.specs.Turns.{DoesOn, HasLineTable, IsWhole, LeftSaying, LeftUnsaid, Turns}
+use Rattle.command_runs.specs.Stops.{HasTable, IsBetween, IsLeft}
+use Rattle.command_runs.specs.Turns.{DoesOn, LeftSaying, LeftUnsaid, Turns}
 use Rattle.command_runs.specs.Uuids.{own_uuid}
 use Rattle.command_runs.proofs.Commands.{says-on}
 use Rattle.command_runs.proofs.Kept.{fits-line, kept-on, left-on, none-named}

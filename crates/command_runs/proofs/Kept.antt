@@ -1,8 +1,8 @@
 -- The bytes of areas over one line more.
-use Rattle.std.proofs.Common.{◌≡◌, ◌⊎◌, inl, inr, ℕ, zero, suc, ◌<◌, Bool, true, false, ◌||◌, cond, List, [], ◌∷◌, ◌++◌, Option, Some, None, Result, Ok, Err, refl, sym, ap, ◌∙◌, subst}
+use Rattle.std.proofs.Common.{◌≡◌, ◌⊎◌, inl, inr, ℕ, zero, suc, Bool, true, false, ◌||◌, cond, List, [], ◌∷◌, ◌++◌, Option, Some, None, Result, Ok, Err, refl, sym, ap, ◌∙◌, subst}
 use Rattle.std.specs.Prelude.{◌==◌, slice_get, unwrap_or}
 use Rattle.std.specs.FinMap.{get}
-use Rattle.std.specs.List.{All, flat_map, list_any}
+use Rattle.std.specs.List.{flat_map, list_any}
 use Rattle.std.specs.Option.{option_map_or}
 use Rattle.std.proofs.lemmas.List.Elements.{All-head, All-tail}
 use Rattle.std.proofs.lemmas.List.Folds.{list_any-append}
@@ -20,7 +20,6 @@ use Rattle.label_area.specs.Flips.{is_among}
 use Rattle.label_area.specs.Inits.{IsVacant, first_block, initialised, layout_of, second_block, slots_of, with_blocks}
 use Rattle.label_area.specs.Modules.{area_kind}
 use Rattle.label_area.proofs.Initialised.{vacant-initialised}
-use Rattle.module_labels.specs.declared.kind.AreaKind.{AreaKind}
 use Rattle.module_labels.specs.declared.kind.AreaKind.TheVariants.{Ready, Uninit}
 use Rattle.module_labels.specs.Labels.{Module}
 use Rattle.region_map.specs.declared.platform.Platform.{Platform}

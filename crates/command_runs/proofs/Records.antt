@@ -1,14 +1,13 @@
 -- What calls leave at any moment, and what a session and its areas stand for.
-use Rattle.std.proofs.Common.{◌≡◌, ◌<◌, ℕ, false, List, Option, length, map, find, refl, sym, ap, subst, ◌∙◌, []}
+use Rattle.std.proofs.Common.{◌≡◌, ℕ, false, List, Option, map, find, refl, sym, ap, subst, ◌∙◌, []}
 use Rattle.std.proofs.Common.{◌∷◌, Bool, true, None, Some, cond, eqb}
-use Rattle.std.specs.FinMap.{get}
 use Rattle.std.specs.List.{All}
 use Rattle.std.specs.Option.{option_and_then}
 use Rattle.rig_trait.specs.declared.shown.Shown.{Ghosts}
 use Rattle.rig_trait.specs.Areas.{Areas}
-use Rattle.rig_trait.specs.Frames.{GoesOn, IsTold, LeavesOnly, Reads, SayLeaves, SaysNothing, SaysOnly}
-use Rattle.rig_trait.specs.Records.{CrashRecord, IsSaying}
-use Rattle.rig_trait.proofs.Frames.{goes_on, reading}
+use Rattle.rig_trait.specs.Frames.{Reads, SayLeaves, SaysOnly}
+use Rattle.rig_trait.specs.Records.{IsSaying}
+use Rattle.rig_trait.proofs.Frames.{reading}
 use Rattle.rig_trait.proofs.Moments.{and_a_call, joined, weakened}
 use Rattle.label_table.specs.Tables.{table}
 use Rattle.module_flips.specs.Stored.{StandsIn, stored_labels}

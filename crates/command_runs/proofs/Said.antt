@@ -1,6 +1,5 @@
 -- A line is done, and its reply said.
-use Rattle.std.proofs.Common.{◌≡◌, ◌⊎◌, inl, inr, ℕ, Bool, true, false, List, [], ◌∷◌, ◌++◌, codes, Option, Some, None, Result, Ok, Err, take, refl, sym, ap, ◌∙◌, subst}
-use Rattle.std.proofs.lemmas.List.{append-nil}
+use Rattle.std.proofs.Common.{◌≡◌, ◌⊎◌, inl, inr, ℕ, Bool, true, false, List, [], ◌∷◌, ◌++◌, codes, Option, Some, Result, Ok, Err, take, refl, sym, ap, ◌∙◌, subst}
 use Rattle.std.specs.FinMap.{get}
 use Rattle.rig_trait.specs.declared.shown.Shown.{Ghosts}
 use Rattle.rig_trait.specs.Areas.{Areas}
@@ -11,7 +10,6 @@ use Rattle.rig_trait.proofs.Frames.{goes_on}
 use Rattle.rig_trait.proofs.Moments.{and_a_call, weakened}
 use Rattle.cmd_words.specs.declared.commands.Command.{Command}
 use Rattle.label_area.proofs.FairRecords.{IsFair-same}
-use Rattle.label_area.specs.Fair.{IsFair}
 use Rattle.label_area.specs.Inits.{IsVacant, slots_of}
 use Rattle.label_area.specs.Modules.{area_kind}
 use Rattle.module_labels.specs.declared.kind.AreaKind.TheVariants.{Uninit}
@@ -23,14 +21,13 @@ use Rattle.view_types.specs.declared.reply.Reply.{Reply}
 use Rattle.view_types.specs.declared.word_fault.WordFault.{WordFault}
 use Rattle.command_runs.specs.declared.faults.LineFault.{LineFault}
 use Rattle.command_runs.specs.declared.faults.LineFault.TheVariants.{Area, Memory, Say}
-use Rattle.command_runs.specs.Areas.{KeepsAreas, LeavesAreas, LeavesLabels, MayInitialise, changed_by_line, initialised_by_line}
-use Rattle.command_runs.specs.Faults.{HasCause, is_say}
+use Rattle.command_runs.specs.Areas.{KeepsAreas, LeavesAreas, LeavesLabels, changed_by_line, initialised_by_line}
 use Rattle.command_runs.specs.Replies.{Tells, TellsReply}
-use Rattle.command_runs.specs.Runs.{is_refusal, text_if}
+use Rattle.command_runs.specs.Runs.{is_refusal}
 use Rattle.command_runs.specs.Stops.{HasTable}
 use Rattle.command_runs.specs.Turns.{Answers, IsTurned, LeftSaying, LeftUnsaid, SaysAll, SaysFront, Turns}
 use Rattle.command_runs.proofs.Commands.{list-unchanged}
-use Rattle.command_runs.proofs.Records.{none-written, read-only, says-nothing-written, still-current, table-is}
+use Rattle.command_runs.proofs.Records.{read-only, says-nothing-written, still-current, table-is}
 
 -- what a stop leaves of areas is the same while something is said
 pub LeavesAreas-same : (platform : Platform) (named : List ℕ) (areas : Areas) (from c : CrashRecord) → c.areas ≡ from.areas → c.torn ≡ from.torn → LeavesAreas platform named areas from → LeavesAreas platform named areas c
@@ -56,35 +53,6 @@ module _ {R : Type 0} (m : Ghosts R) (session : StoredSession) (seed number : �
   module _ (new : R) where
     left-unsaid : {answer : Result (Option Reply) LineFault} → Answers m session seed number line old now new answer → IsCurrent m old session → LeavesOnly m old new LeftByTurn
     left-unsaid a current = weakened (LeftUnsaid (IsCurrent m old session) session seed number line (m.said old)) LeftByTurn (λ c left. inl left) (a.any_moment current)
-
-    -- a blank line and a comment
-    pub turns-silent : Answers m session seed number line old now new (Ok None) → Turns m session seed number line old now new (Ok false)
-    turns-silent a = record {
-      turns_to = record {
-        reply = None;
-        turned = record {
-          does = a.does;
-          said_is = λ told. a.nothing.said ∙ nothing-more (m.said old);
-          current = a.current;
-          kept = λ none. read-only (a.reads_only refl);
-        };
-        refused_is = refl;
-      };
-      any_moment = left-unsaid a;
-      bytes = a.bytes;
-      bytes_left = a.bytes_left;
-      cause = record { areas = a.cause; says = a.nothing.say_faults };
-      among = tt;
-      reads = a.reads;
-      spends = a.spends;
-      platform = a.platform;
-      dimms = a.dimms;
-      sizes = a.sizes;
-      goes_on = a.nothing.goes_on;
-    }
-      where
-        nothing-more : (said : List ℕ) → said ≡ said ++ []
-        nothing-more said = sym (append-nil said)
 
     pub turns-fault : (fault : LineFault) → Answers m session seed number line old now new (Err fault) → Turns m session seed number line old now new (Err fault)
     turns-fault (Area dimm) a = record {

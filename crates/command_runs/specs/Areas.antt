@@ -13,7 +13,6 @@ use Rattle.label_area.specs.Modules.{area_kind}
 use Rattle.module_labels.specs.declared.kind.AreaKind.TheVariants.{Uninit}
 use Rattle.region_map.specs.declared.platform.Platform.{Platform}
 use Rattle.cmd_words.specs.declared.commands.Command.{Command}
-use Rattle.cmd_words.specs.declared.commands.Command.TheVariants.{InitLabels}
 use Rattle.cmd_words.specs.Lines.{command_in}
 use Rattle.view_types.specs.declared.word_fault.WordFault.{WordFault}
 use Rattle.view_types.specs.declared.reply.Reply.{Reply}

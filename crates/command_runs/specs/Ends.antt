@@ -1,8 +1,7 @@
 -- How a list of lines ends: all are done, or a fault ends it.
-use Rattle.std.specs.Prelude.{◌≡◌, ◌⊎◌, ℕ, ◌<◌, Bool, false, List, [], ◌++◌, length, take, Result, Ok, Err, map}
+use Rattle.std.specs.Prelude.{◌≡◌, ℕ, ◌<◌, Bool, false, List, [], ◌++◌, length, take, Result, Ok, Err}
 use Rattle.rig_trait.specs.declared.shown.Shown.{Ghosts}
 use Rattle.rig_trait.specs.Records.{CrashRecord}
-use Rattle.label_table.specs.Tables.{State}
 use Rattle.sessions.specs.Sessions.{IsCurrent, StoredSession, slots_of, state_of}
 use Rattle.command_runs.specs.declared.faults.LineFault.{LineFault}
 use Rattle.command_runs.specs.declared.faults.LineFault.TheVariants.{Area, Memory, Say}

@@ -1,6 +1,6 @@
 //! Lists of lines over areas that are built by hand: what is said, and what is left where all stops or a call fails.
 
-ghost use Rattle.std.specs.Prelude.{◌≡◌, false, IfOk};
+ghost use Rattle.std.specs.Prelude.{◌≡◌, IfOk, IfSome, false};
 ghost use Rattle.rig_trait.specs.Frames.{IsTold};
 ghost use Rattle.sessions.specs.Sessions.{IsCurrent};
 
@@ -34,10 +34,10 @@ fn new_rig(alloc: Global) -> Result<MemoryRig, AllocError> {
     Ok(rig)
 }
 
-/// A session of the platform of two modules.
-fn start<R: Rig>(alloc: Global, rig: &mut R) -> Result<Session, Fail>
-    ensures current { IsTold R.Shown rig.old → IfOk result (IsCurrent R.Shown rig.new) }
-    ensures unspent { IfOk result (λ session. session.spent ≡ false) }
+/// A session of the platform of two modules, where the areas can be read.
+fn start<R: Rig>(alloc: Global, rig: &mut R) -> Result<Option<Session>, Fail>
+    ensures current { IsTold R.Shown rig.old → IfOk result (λ started. IfSome started (IsCurrent R.Shown rig.new)) }
+    ensures unspent { IfOk result (λ started. IfSome started (λ session. session.spent ≡ false)) }
 {
     let Ok(nfit) = read_nfit(alloc, &nfit(alloc, &two_modules(alloc)?)?) else {
         return Err(Fail::from("no table"));
@@ -46,25 +46,31 @@ fn start<R: Rig>(alloc: Global, rig: &mut R) -> Result<Session, Fail>
         return Err(Fail::from("no platform"));
     };
     match Session::start(alloc, platform, rig) {
-        Ok(session) => Ok(session),
-        Err(_) => Err(Fail::from("no session")),
+        Ok(session) => Ok(Some(session)),
+        Err(_) => Ok(None),
     }
 }
 
-/// Does the lines of a text on a new session, with the seed 1.
-fn run<R: Rig>(alloc: Global, rig: &mut R, text: &str) -> Result<Result<bool, LineFault>, Fail> {
-    let mut session = start(alloc, rig)?;
+/// The answer to the lines of a text on a new session, with the seed 1. `None` where there is no session.
+type Answer = Option<Result<bool, LineFault>>;
+
+fn run<R: Rig>(alloc: Global, rig: &mut R, text: &str) -> Result<Answer, Fail>
+    requires { IsTold R.Shown rig.old }
+{
+    let Some(mut session) = start(alloc, rig)? else {
+        return Ok(None);
+    };
     let lines = lines_of(alloc, text.as_bytes())?;
-    Ok(run_lines(alloc, rig, &mut session, &lines, 1))
+    Ok(Some(run_lines(alloc, rig, &mut session, &lines, 1)))
 }
 
 /// The fourth line makes a namespace, and the last one is blank.
 const INPUT: &str =
-    "init-labels dimm=1\n\n# none\ncreate-namespace region=1 size=4M\nlist\ninit-labels dimm=1\n";
+    "init-labels dimm=1\n\n# none\ncreate-namespace region=1 size=4M name=db0\nlist\ninit-labels dimm=1\n";
 
 /// All that is said. The uuid is that of the seed and the number 4, as another library makes it.
 const SAID: &str =
-    "ok initialised dimm=0x00000001 slots=2\nok created uuid=cbb21cb2-75b1-5657-831a-a9df31933706 region=1 offset=0 length=2097152 size=4194304 spare=1\n  namespace uuid=cbb21cb2-75b1-5657-831a-a9df31933706 name= region=1 mode=raw sector=512 offset=0 length=2097152 size=4194304 pending=no read-only=no\nok namespaces=1\nrefused already-ready dimm=0x00000001\n";
+    "ok initialised dimm=0x00000001 slots=2\nok created uuid=cbb21cb2-75b1-5657-831a-a9df31933706 region=1 offset=0 length=2097152 size=4194304 spare=1\n  namespace uuid=cbb21cb2-75b1-5657-831a-a9df31933706 name=db0 region=1 mode=raw sector=512 offset=0 length=2097152 size=4194304 pending=no read-only=no\nok namespaces=1\nrefused already-ready dimm=0x00000001\n";
 
 /// The length of the first reply, and of the first two.
 const FIRST: usize = 39;
@@ -75,7 +81,7 @@ const SECOND: usize = 146;
 fn replies(rt: HostRuntime) -> Result<(), Fail> {
     let alloc = rt.alloc();
     let mut rig = new_rig(alloc)?;
-    assert_eq!(rt; run(alloc, &mut rig, INPUT)?, Ok(true));
+    assert_eq!(rt; run(alloc, &mut rig, INPUT)?, Some(Ok(true)));
     assert_eq!(rt; rig.said(), SAID.as_bytes());
     Ok(())
 }
@@ -85,7 +91,7 @@ fn replies(rt: HostRuntime) -> Result<(), Fail> {
 fn holds(rt: &impl Abort, alloc: Global, rig: &mut MemoryRig) -> Result<(), Fail> {
     let said = rig.said().len();
     assert!(rt; SAID.as_bytes().starts_with(rig.said()));
-    assert_eq!(rt; run(alloc, rig, "list")?, Ok(false));
+    assert_eq!(rt; run(alloc, rig, "list")?, Some(Ok(false)));
     let listed = rig.said().get(said..).ok_or("nothing is taken back")?;
     let stands = listed.ends_with(b"ok namespaces=1\n");
     assert!(rt; stands || listed == b"ok namespaces=0\n".as_slice());
@@ -115,7 +121,7 @@ fn stops(rt: HostRuntime) -> Result<(), Fail> {
     let alloc = rt.alloc();
     let mut rig = new_rig(alloc)?;
     rig.keep_calls(32, 8192)?;
-    assert_eq!(rt; run(alloc, &mut rig, INPUT)?, Ok(true));
+    assert_eq!(rt; run(alloc, &mut rig, INPUT)?, Some(Ok(true)));
     let mut stops = 0u64;
     for call in 0..rig.calls() {
         for whole in [false, true] {
@@ -135,24 +141,24 @@ fn stops(rt: HostRuntime) -> Result<(), Fail> {
 fn faults(rt: HostRuntime) -> Result<(), Fail> {
     let alloc = rt.alloc();
     let mut rig = new_rig(alloc)?;
-    assert_eq!(rt; run(alloc, &mut rig, INPUT)?, Ok(true));
+    assert_eq!(rt; run(alloc, &mut rig, INPUT)?, Some(Ok(true)));
     for call in 0..rig.calls() {
         let mut failing = new_rig(alloc)?;
         failing.fail_at(vec![in alloc; call]?);
-        if let Ok(answer) = run(alloc, &mut failing, INPUT) {
-            assert!(rt; is_first(answer, &failing));
-            failing.fail_at(Vec::new(alloc));
-            holds(&rt, alloc, &mut failing)?;
-        }
+        let answer = run(alloc, &mut failing, INPUT)?;
+        assert!(rt; is_first(answer, &failing), "call {call}");
+        failing.fail_at(Vec::new(alloc));
+        holds(&rt, alloc, &mut failing)?;
     }
     Ok(())
 }
 
 /// The answer is the one fault of the rig.
-fn is_first(answer: Result<bool, LineFault>, rig: &MemoryRig) -> bool {
+fn is_first(answer: Answer, rig: &MemoryRig) -> bool {
     match answer {
-        Err(LineFault::Area { dimm }) => rig.failed_dimm() == dimm && rig.faults() == 1,
-        Err(LineFault::Say) => rig.faults() == 0 && rig.say_faults() == 1,
-        Ok(_) | Err(LineFault::Memory) => false,
+        Some(Err(LineFault::Area { dimm })) => rig.failed_dimm() == dimm && rig.faults() == 1,
+        Some(Err(LineFault::Say)) => rig.faults() == 0 && rig.say_faults() == 1,
+        Some(Ok(_) | Err(LineFault::Memory)) => false,
+        None => rig.said().is_empty() && rig.faults() == 1,
     }
 }

@@ -1,9 +1,6 @@
-use Rattle.std.proofs.Common.{◌≡◌, ◌+◌, ◌<◌, ℕ, suc, ◌||◌, Bool, Bor, List, [], Some, Result, Err, get_or, length, map, option_map, sym, ap, ◌∙◌, subst, arith}
+use Rattle.std.proofs.Common.{◌≡◌, ◌+◌, ◌<◌, ℕ, suc, ◌||◌, Bool, Bor, List, [], Some, Err, get_or, length, map, option_map, sym, ap, ◌∙◌, subst, arith}
 use Rattle.std.specs.Prelude.{slice_get}
 use Rattle.std.proofs.lemmas.Option.{slice_get-get_or, slice_get-map}
-use Rattle.cmd_words.specs.Lines.{command_in}
-use Rattle.command_runs.specs.declared.faults.LineFault.{LineFault}
-use Rattle.command_runs.specs.Turns.{Turns}
 use Rattle.command_runs.proofs.Ended.{cut-short}
 use Rattle.command_runs.proofs.Going.{IsGoing, any-moment-on, bytes-left-on, bytes-on, going-first, going-on, reads-on, still-sized}
 use Rattle.command_runs.proofs.runs.run_lines.Goals.{then-refused, else-refused}
