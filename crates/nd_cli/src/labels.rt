@@ -33,7 +33,8 @@ pub fn say_labels<R: Rig>(alloc: Global, rig: &mut R, dimm: u32) -> u8
 
 /// Says why the labels of a module are not listed.
 fn say_unlisted<R: Rig>(rig: &mut R, dimm: u32, fault: AreaFault) -> u8
-    ensures { Says R.Shown rig.old rig.new (text_of dimm (answer_of dimm fault)) (status_of (answer_of dimm fault)) result }
+    ensures { Says R.Shown rig.old rig.new (text_of dimm (answer_of dimm fault))
+        (status_of (answer_of dimm fault)) result }
 {
     let kind = match fault {
         AreaFault::Missing => AreaKind::Missing,
