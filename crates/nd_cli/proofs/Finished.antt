@@ -50,7 +50,7 @@ bytes_said : {R : Type 0} (m : Ghosts R) (old mid new : R) (text : List ℕ) (st
 bytes_said m old mid new text status result platform all left says =
     and_a_call (LeavesBytes platform all (m.areas old)) (IsSaying (m.may_leave mid) (m.said mid) text) left says.tells.stops
     (λ c saying. LeavesBytes-same platform all (m.areas old) saying.from c saying.areas_are saying.torn_is
-      (left.each saying.from (m.counts_now mid (m.moment old) saying.from left.later saying.was)))
+    (left.each saying.from (m.counts_now mid (m.moment old) saying.from left.later saying.was)))
 
 module _ {R : Type 0} (m : Ghosts R) (old start mid : R) (session after : StoredSession) (seed : ℕ) (lines : List (List ℕ)) (read : Reads m old start)
     (current : IsTold m old → IsCurrent m start session) (fails : FailsAt 0 m old start false) (platform_is : after.platform ≡ session.platform) (goes_on : GoesOn m start mid)
@@ -177,7 +177,7 @@ module _ {R : Type 0} (m : Ghosts R) (old start mid : R) (session after : Stored
   are_run new (Err fault.Say) status ends cause among bytes end =
       subst (λ (r : R). AreRun m run old r status) (sym end.0)
       (are_done (Err fault.Say) status (cut_off ends.done ends.progress status ends.more ends.behind ends.ended cause.says end.1)
-        (faults_behind m old start mid (Err fault.Say) fails cause.areas) among (bytes_run m old start session seed lines read current mid (Err fault.Say) bytes))
+      (faults_behind m old start mid (Err fault.Say) fails cause.areas) among (bytes_run m old start session seed lines read current mid (Err fault.Say) bytes))
   are_run new (Err (fault.Area dimm)) status ends cause among bytes end =
       are_ended new (Area dimm) ends.done ends.progress status ends.ended ends.behind end (Err (fault.Area dimm))
       (ended new (Area dimm) ends.done ends.progress status ends.ended ends.behind end ends.more cause.says)

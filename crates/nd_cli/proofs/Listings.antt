@@ -44,7 +44,7 @@ refused_is dimm areas kind is other =
 listed_is : (dimm : ℕ) (areas : Areas) (area : LoadedArea) → area.dimm ≡ dimm → IsShown area areas → Lists (loaded_listing area) ≡ labels_answer dimm areas
 listed_is dimm areas area is shown =
     let current : current_block (get areas dimm) ≡ Some (block_of area) =
-        ap (λ (d : ℕ). current_block (get areas d)) (sym is) ∙ ap current_block shown.is_area ∙ shown.current_is in
+    ap (λ (d : ℕ). current_block (get areas d)) (sym is) ∙ ap current_block shown.is_area ∙ shown.current_is in
     sym (ap (listing_answer dimm areas) current ∙ ap (λ (m : Module). Lists (listing (block_of area) m)) (ap (module_at areas) (sym is) ∙ shown.module_is))
 
 unlisted_is : (dimm : ℕ) (areas : Areas) (fault : AreaFault) → IsFaultOf dimm areas fault → IsAnswer dimm areas (answer_of dimm fault)

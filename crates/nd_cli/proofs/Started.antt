@@ -79,8 +79,8 @@ module _ {R : Type 0} (m : Ghosts R) (old mid : R) (session : StoredSession) (se
       let known = IsCurrent m mid session in
       joined (reading (IsLeft (IsTold m old) run (m.said old)) (left_first told) read)
       (weakened (IsLeft known run (m.said mid)) (IsLeft (IsTold m old) run (m.said old))
-        (λ c left. left-known known (IsTold m old) current run (m.said old) c (subst (λ (said : List ℕ). IsLeft known run said c) read.said left))
-        (any_moment (current told)))
+      (λ c left. left-known known (IsTold m old) current run (m.said old) c (subst (λ (said : List ℕ). IsLeft known run said c) read.said left))
+      (any_moment (current told)))
 
   pub kept_run : (new : R) → WritesNothing m mid new → WritesNothing m old new
   kept_run new kept = record {
@@ -99,4 +99,4 @@ module _ {R : Type 0} (m : Ghosts R) (old mid : R) (session : StoredSession) (se
   bytes_left_run new leaves told none =
       joined (reading (LeavesBytes session.platform lines (m.areas old)) (λ c same said_is dimm. inl (ap (λ (areas : Areas). get areas dimm) same)) read)
       (weakened (LeavesBytes session.platform lines (m.areas mid)) (LeavesBytes session.platform lines (m.areas old))
-        (λ c left. subst (λ (areas : Areas). LeavesBytes session.platform lines areas c) read.areas left) (leaves (current told) none))
+      (λ c left. subst (λ (areas : Areas). LeavesBytes session.platform lines areas c) read.areas left) (leaves (current told) none))

@@ -33,7 +33,8 @@ pub fn say_labels<R: Rig>(alloc: Global, rig: &mut R, dimm: u32) -> u8
 
 /// Says why the labels of a module are not listed.
 fn say_unlisted<R: Rig>(rig: &mut R, dimm: u32, fault: AreaFault) -> u8
-    ensures { Says R.Shown rig.old rig.new (text_of dimm (answer_of dimm fault)) (status_of (answer_of dimm fault)) result }
+    ensures { Says R.Shown rig.old rig.new (text_of dimm (answer_of dimm fault))
+        (status_of (answer_of dimm fault)) result }
 {
     let kind = match fault {
         AreaFault::Missing => AreaKind::Missing,
@@ -43,7 +44,11 @@ fn say_unlisted<R: Rig>(rig: &mut R, dimm: u32, fault: AreaFault) -> u8
         AreaFault::Failed => return say_fault(rig, Fault::Area { dimm }),
         AreaFault::Memory => return say_fault(rig, Fault::Memory),
     };
-    say(rig, refusal_line(not_ready(dimm, kind)).as_bytes(), Status::Refused)
+    say(
+        rig,
+        refusal_line(not_ready(dimm, kind)).as_bytes(),
+        Status::Refused,
+    )
 }
 
 /// Why what needs a Ready area is not done with one of this kind.

@@ -35,8 +35,8 @@ pub fn run_on<R: Rig>(
     say_end(rig, outcome)
 }
 
-/// Says the line of the fault that ended lines, and gives the status. Behind a reply that could not be said whole nothing
-/// is said.
+/// Says the line of the fault that ended lines, and gives the status. Behind a reply that could not be said whole
+/// nothing is said.
 fn say_end<R: Rig>(rig: &mut R, outcome: Result<bool, LineFault>) -> u8
     ensures ends { SaysEnd R.Shown rig.old rig.new outcome result }
     ensures goes_on { GoesOn R.Shown rig.old rig.new }

@@ -55,18 +55,12 @@ fn rig_of(alloc: Global, area: &[u8]) -> Result<MemoryRig, AllocError> {
 
 /// The NFIT of that platform, of whose reads those that are listed fail.
 fn platform(alloc: Global, fail_at: Vec<u64>) -> Result<MemorySource, AllocError> {
-    Ok(MemorySource::new(
-        nfit(alloc, &two_modules(alloc)?)?,
-        fail_at,
-    ))
+    Ok(MemorySource::new(nfit(alloc, &two_modules(alloc)?)?, fail_at))
 }
 
 /// An input of these bytes.
 fn input_of(alloc: Global, text: &str) -> Result<MemorySource, AllocError> {
-    Ok(MemorySource::new(
-        text.as_bytes().to_vec(alloc)?,
-        Vec::new(alloc),
-    ))
+    Ok(MemorySource::new(text.as_bytes().to_vec(alloc)?, Vec::new(alloc)))
 }
 
 /// Runs a row over a rig, on that platform and with no input.
@@ -377,7 +371,10 @@ fn seeds(rt: HostRuntime) -> Result<(), Fail> {
         let mut rig = both(alloc)?;
         let mut source = platform(alloc, Vec::new(alloc))?;
         let mut input = input_of(alloc, "")?;
-        assert_eq!(rt; nd_top(alloc, &words, &mut rig, &mut source, &mut input, seed), 0);
+        assert_eq!(rt;
+            nd_top(alloc, &words, &mut rig, &mut source, &mut input, seed),
+            0
+        );
         assert_eq!(rt; rig.said().get(16..52), Some(uuid.as_bytes()));
     }
     Ok(())
@@ -432,7 +429,11 @@ const RUNS: [(&str, u8, &str); 8] = [
         "refused words unknown\nok namespaces=0\n",
     ),
     ("list\r\n", 1, "refused words byte at=4\n"),
-    ("list-held dimm=1\n \0\n", 1, "ok held=0 spare=2\nrefused words byte at=1\n"),
+    (
+        "list-held dimm=1\n \0\n",
+        1,
+        "ok held=0 spare=2\nrefused words byte at=1\n",
+    ),
 ];
 
 #[test]

@@ -33,5 +33,5 @@ returns-clause-ends g c =
     let status = c.say_end.result in
     subst (λ (platform : Platform). EndsOn g.R.Shown c.args.seed platform lines c.args.rig.now c.say_end.new.rig status) c.in-Ok.ensures.opened.0
     (ran (slots_of session) (state_of session)
-      (are_run g.R.Shown c.args.rig.now c.start.new.rig c.run_lines-outcome.new.rig session c.run_lines-outcome.new.session c.args.seed lines c.start.ensures.reads_only c.in-Ok.ensures.current c.in-Ok.ensures.cause
-      does.platform does.goes_on does.any_moment does.bytes_left c.say_end.new.rig c.run_lines-outcome.result status does.ends does.cause does.among does.bytes c.say_end.ensures.ends))
+    (are_run g.R.Shown c.args.rig.now c.start.new.rig c.run_lines-outcome.new.rig session c.run_lines-outcome.new.session c.args.seed lines c.start.ensures.reads_only c.in-Ok.ensures.current c.in-Ok.ensures.cause
+    does.platform does.goes_on does.any_moment does.bytes_left c.say_end.new.rig c.run_lines-outcome.result status does.ends does.cause does.among does.bytes c.say_end.ensures.ends))
