@@ -4,9 +4,6 @@ pub mod Frees
 pub mod Rooms
 pub mod Viewed
 pub mod FreeRoom
-pub mod Unwanted
-pub mod Swept
-pub mod Sweeping
 pub mod SweptSets
 pub mod SpareSlots
 pub mod TightSlots

@@ -23,7 +23,8 @@ use Rattle.label_sets.specs.declared.sets.Sets.TheInside.{Inside}
 use Rattle.label_sets.specs.Dropping.{CanDropIn}
 use Rattle.label_sets.specs.Healing.{CanHealIn}
 use Rattle.label_sets.specs.Kept.{HasFewMembers, IsKept, IsKnownFree, shown}
-use Rattle.label_sets.specs.Room.{HasRoom, HasSlotsWithin}
+use Rattle.label_sets.specs.Room.{HasRoom}
+use Rattle.module_sweeps.specs.Sweeps.{HasSlotsWithin}
 use Rattle.label_sets.specs.Sets.{StoredSets, platform_in}
 use Rattle.label_sets.specs.Staging.{OfRegion}
 use Rattle.label_sets.proofs.EntryCounts.{counts-at, room-kept}

@@ -19,7 +19,8 @@ use Rattle.region_sets.specs.Fates.{platform_of}
 use Rattle.label_sets.specs.declared.sets.Sets.TheInside.{Inside}
 use Rattle.label_sets.specs.Kept.{IsKept, shown}
 use Rattle.label_sets.specs.Sets.{StoredSets}
-use Rattle.label_sets.specs.Sweeps.{IsFreeAsSpare, IsSwept, IsSweptAt}
+use Rattle.label_sets.specs.Sweeps.{IsFreeAsSpare, IsSweptAt}
+use Rattle.module_sweeps.specs.Sweeps.{IsSwept}
 use Rattle.label_sets.proofs.SpareSlots.{spare-there}
 
 apart : {A : Type 0} → false ≡ true → A

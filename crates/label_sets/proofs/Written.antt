@@ -10,7 +10,7 @@ use Rattle.region_sets.specs.declared.region.RegionLabels.{RegionLabels}
 use Rattle.region_sets.specs.Fates.{region_in}
 use Rattle.module_flips.specs.Together.{slots_in}
 use Rattle.label_sets.specs.Kept.{HasFewMembers}
-use Rattle.label_sets.specs.Room.{HasSlotsWithin}
+use Rattle.module_sweeps.specs.Sweeps.{HasSlotsWithin}
 
 -- a list that is written back over a vector of as many
 pub back-is : {X Z : Type 0} (v : Vec X Z) (ws xs : List X) → xs ≡ v.items → length ws ≡ length xs → (with_items v ws).items ≡ ws

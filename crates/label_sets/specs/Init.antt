@@ -26,7 +26,7 @@ use Rattle.label_sets.specs.declared.init.SetInitFault.{SetInitFault}
 use Rattle.label_sets.specs.declared.init.SetInitFault.TheVariants.{Refused, Failed, Memory}
 use Rattle.label_sets.specs.Sets.{StoredSets, platform_in}
 use Rattle.label_sets.specs.Sets as sets
-use Rattle.label_sets.specs.Sweeps.{ChangesOnly}
+use Rattle.module_sweeps.specs.Sweeps.{ChangesOnly}
 use Rattle.label_sets.specs.Views.{area_state}
 
 -- the rig failed

@@ -11,7 +11,8 @@ use Rattle.region_sets.specs.Modules.{EachOnce, labels_in}
 use Rattle.region_sets.specs.Regions.{IsOver}
 use Rattle.label_sets.specs.declared.sets.Sets.TheInside.{Inside}
 use Rattle.module_flips.specs.Flips.{HasLabelsInUse, IsOwn}
-use Rattle.label_sets.specs.Room.{HasRoom, HasSlotsWithin}
+use Rattle.label_sets.specs.Room.{HasRoom}
+use Rattle.module_sweeps.specs.Sweeps.{HasSlotsWithin}
 use Rattle.label_sets.specs.Sets.{StoredSets}
 
 -- the free space of a region is what the labels of all modules leave

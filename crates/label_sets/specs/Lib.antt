@@ -1,4 +1,5 @@
 pub mod Sweeps
+pub mod Releases
 pub mod Init
 pub mod Loads
 pub mod Codes

@@ -2,13 +2,7 @@
 use Rattle.std.specs.Prelude.{ℕ, ◌<◌, ◌≤◌, IfSome, List, Option, length, slice_index_or}
 use Rattle.std.specs.List.{All}
 use Rattle.extent_alloc.specs.Free.{FreeSpace}
-use Rattle.region_sets.specs.declared.modules.LoadedModule.{LoadedModule}
 use Rattle.region_sets.specs.declared.region.RegionLabels.{RegionLabels}
-use Rattle.region_sets.specs.Modules.{module_in}
-
--- all slots of the module can be listed in so much
-abbrev pub HasSlotsWithin : ℕ → LoadedModule → Type 0
-HasSlotsWithin most loaded = (module_in loaded).slots ≤ most
 
 -- the index has room for one label more of each member's module
 abbrev pub HasLabelRoom : RegionLabels → Type 0

@@ -23,13 +23,12 @@ ghost use Rattle.module_flips.specs.Flips.{HasLabelsInUse, IsOwn};
 ghost use Rattle.module_flips.specs.Stored.{StandsIn};
 ghost use Rattle.module_flips.specs.Stops.{IsOneOf, LeftIn};
 ghost use Rattle.label_sets.specs.Kept.{AllFree};
-ghost use Rattle.label_sets.specs.Room.{HasSlotsWithin};
 ghost use Rattle.label_sets.specs.Init.{IsInitialisedTo, NamesModule, Refuses, UnlessFailed, fault_by, is_failure};
 ghost use Rattle.label_sets.specs.Init.{initialised_state, is_init_failed, refused_state, slots_at, state_at};
 ghost use Rattle.label_sets.specs.Init.{uninit_size, vacant_module};
 ghost use Rattle.label_sets.specs.Sets.{platform_in, state_in};
 ghost use Rattle.label_sets.specs.Sets as sets;
-ghost use Rattle.label_sets.specs.Sweeps.{ChangesOnly};
+ghost use Rattle.module_sweeps.specs.Sweeps.{ChangesOnly, HasSlotsWithin};
 ghost use Rattle.label_sets.specs.Views.{area_state};
 
 use crate::free::{FreeExtents, free_in};

@@ -11,6 +11,7 @@ mod load;
 mod lookups;
 mod marking;
 mod read;
+mod release;
 mod renaming;
 mod room;
 mod sets;

@@ -3,7 +3,8 @@
 ghost use Rattle.std.specs.Prelude.{◌≡◌, OnOk, length, map};
 ghost use Rattle.std.specs.List.{All};
 ghost use Rattle.region_sets.specs.Modules.{module_in};
-ghost use Rattle.label_sets.specs.Room.{HasExtentRoom, HasLabelRoom, HasSlotsWithin, HaveExtentRoom};
+ghost use Rattle.module_sweeps.specs.Sweeps.{HasSlotsWithin};
+ghost use Rattle.label_sets.specs.Room.{HasExtentRoom, HasLabelRoom, HaveExtentRoom};
 ghost use Rattle.label_sets.specs.Room.{without_room, without_spare};
 
 use extent_alloc::Extents;

@@ -8,7 +8,7 @@ ghost use Rattle.region_sets.specs.Modules.{EachOnce};
 ghost use Rattle.region_sets.specs.Regions.{IsOver};
 ghost use Rattle.module_flips.specs.Flips.{HasLabelsInUse, IsOwn};
 ghost use Rattle.label_sets.specs.Kept.{HasFewMembers, IsKnownFree};
-ghost use Rattle.label_sets.specs.Room.{HasSlotsWithin};
+ghost use Rattle.module_sweeps.specs.Sweeps.{HasSlotsWithin};
 
 use crate::free::FreeExtents;
 use crate::room::reserve_labels;

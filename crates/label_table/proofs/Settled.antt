@@ -48,7 +48,7 @@ number-either p q s m either = count-either p q s m.at m.slots either
 
 module _ (P : Platform) (L : Labels) (bounded : IsBounded L) where
   -- Where a module has a uuid twice each of these labels is held,
-  all-held : (u : List ℕ) (m : ℕ) → 1 < label_count (labels_with u L) m → (k : ℕ) (l : Label) → (L m).at k ≡ Some l → has u l ≡ true → is_held P L m l ≡ true
+  pub all-held : (u : List ℕ) (m : ℕ) → 1 < label_count (labels_with u L) m → (k : ℕ) (l : Label) → (L m).at k ≡ Some l → has u l ≡ true → is_held P L m l ≡ true
   all-held u m twice k l is h = and_from (not (is_dead P L m l)) (not (is_of_namespace P L m l)) (ap not alive) (ap not apart_of)
     where
       uuid : l.uuid ≡ u

@@ -27,7 +27,8 @@ use Rattle.region_sets.specs.Modules.{is_of, module_in, module_or_missing}
 use Rattle.module_flips.specs.Together.{free_slots}
 use Rattle.namespace_staging.specs.Staged.{new_space}
 use Rattle.label_sets.specs.Sets.{StoredSets, labels_in, platform_in, state_in}
-use Rattle.label_sets.specs.Sweeps.{IsFreeAsSpare, IsSwept, IsSweptAt}
+use Rattle.label_sets.specs.Sweeps.{IsFreeAsSpare, IsSweptAt}
+use Rattle.module_sweeps.specs.Sweeps.{IsSwept}
 use Rattle.label_table.proofs.SoundPlatforms.{sound-disjoint}
 use Rattle.label_sets.proofs.Platforms.{known-members}
 use Rattle.label_sets.proofs.Stageable.{region-listed}

@@ -17,7 +17,7 @@ use Rattle.module_flips.specs.Together.{free_slots}
 use Rattle.namespace_healing.proofs.Passing.{at-place, each-length}
 use Rattle.label_sets.specs.Healing.{CanHealIn, IsHealedIn}
 use Rattle.label_sets.specs.Sets.{StoredSets, labels_in, platform_in, state_in}
-use Rattle.label_sets.proofs.SweptSets.{get_or-any}
+use Rattle.module_sweeps.proofs.FreedModules.{get_or-any}
 use Rattle.recovery.specs.Recovery.{HasSpareFree, IsRecovered, pending_count, unhealed_at}
 use Rattle.recovery.specs.Steps.{AreHealed, CanHealPending}
 use Rattle.recovery.proofs.Counting.{count-le}

@@ -25,8 +25,9 @@ use Rattle.module_flips.specs.Stored.{StandsIn}
 use Rattle.module_flips.specs.Together.{free_slots}
 use Rattle.namespace_healing.proofs.Passing.{at-place, each-length}
 use Rattle.label_sets.specs.Sets.{StoredSets, labels_in, platform_in, state_in}
-use Rattle.label_sets.specs.Sweeps.{ChangesOnly, IsFreeAsSpare}
-use Rattle.label_sets.proofs.SweptSets.{get_or-any}
+use Rattle.label_sets.specs.Sweeps.{IsFreeAsSpare}
+use Rattle.module_sweeps.specs.Sweeps.{ChangesOnly}
+use Rattle.module_sweeps.proofs.FreedModules.{get_or-any}
 use Rattle.recovery.specs.Recovery.{HasSpareFree}
 use Rattle.recovery.specs.Steps.{HasTableOf, IsStep}
 

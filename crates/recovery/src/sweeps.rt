@@ -10,7 +10,8 @@ ghost use Rattle.module_flips.specs.Flips.{IsSizedIn};
 ghost use Rattle.module_flips.specs.Stops.{HasAreaCause};
 ghost use Rattle.module_flips.specs.Stored.{StandsIn};
 ghost use Rattle.label_sets.specs.Sets.{labels_in, state_in};
-ghost use Rattle.label_sets.specs.Sweeps.{ChangesOnly, IsFreeAsSpare};
+ghost use Rattle.label_sets.specs.Sweeps.{IsFreeAsSpare};
+ghost use Rattle.module_sweeps.specs.Sweeps.{ChangesOnly};
 ghost use Rattle.recovery.specs.Recovery.{HasSpareFree};
 ghost use Rattle.recovery.specs.Steps.{IsStep};
 

@@ -26,13 +26,12 @@ use Rattle.module_labels.specs.Flips.{with_module}
 use Rattle.module_flips.specs.Stops.{IsOneOf, LeftIn}
 use Rattle.label_sets.specs.Init.{IsInitialisedTo, initialised_state, slots_at, state_at, vacant_module}
 use Rattle.label_sets.specs.Kept.{AllFree, IsKnownFree}
-use Rattle.label_sets.specs.Room.{HasSlotsWithin}
 use Rattle.label_sets.specs.Sets.{StoredSets, labels_in, platform_in, state_in}
-use Rattle.label_sets.specs.Sweeps.{ChangesOnly}
+use Rattle.module_sweeps.specs.Sweeps.{ChangesOnly, HasSlotsWithin}
 use Rattle.label_sets.specs.Views.{area_state}
 use Rattle.label_sets.proofs.InitialisedSets.{had-none, initialised-with, refused-so, settles, unfailed, slots-by, was-unready}
 use Rattle.label_sets.proofs.InitSets.{init-state-left, initialised-same, none-left, reads-left, stands-here, state-here, uninit-at, uninit-is, uninit-slots, uninit-state}
-use Rattle.label_sets.proofs.Sweeping.{all-bounded}
+use Rattle.module_sweeps.proofs.Sweeping.{all-bounded}
 use Rattle.label_sets.proofs.sets.Sets.init.Goals as goal
 
 pub returns-in_default-clause-refused : goal.returns-in_default-clause-refused

@@ -2,12 +2,13 @@ use Rattle.std.proofs.Common.{◌≡◌, ◌≤◌}
 use Rattle.std.specs.Prelude.{vec_capacity, vec_len}
 use Rattle.region_sets.specs.Fates.{platform_of}
 use Rattle.region_sets.specs.Modules.{labels_in}
-use Rattle.label_sets.specs.Sweeps.{is_unwanted, slots_below}
-use Rattle.label_sets.proofs.sweep.list_unwanted.Given as goal
+use Rattle.module_sweeps.specs.Releases.{has_or_is_dead}
+use Rattle.module_sweeps.specs.Sweeps.{is_unwanted, slots_below}
+use Rattle.module_sweeps.proofs.lists.list_released.Given as goal
 
 abbrev pub invariant-loop-slot : goal.invariant-loop-slot
 invariant-loop-slot l = record {
-  listed : l.slots.items ≡ slots_below (is_unwanted (platform_of l.regions) (labels_in l.modules) l.loaded) l.slot;
+  listed : l.slots.items ≡ slots_below (is_unwanted (has_or_is_dead (platform_of l.regions) (labels_in l.modules) l.uuid l.loaded) l.loaded) l.slot;
   few : vec_len l.slots ≤ l.slot;
   room : vec_capacity l.fn.slots ≤ vec_capacity l.slots;
 }

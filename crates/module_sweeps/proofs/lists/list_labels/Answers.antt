@@ -5,7 +5,7 @@ use Rattle.std.proofs.lemmas.List.{take_more}
 use Rattle.std.proofs.lemmas.List.Elements.{filter_map-append}
 use Rattle.region_sets.specs.Modules.{module_in}
 use Rattle.region_changes.specs.SlotLabels.{slot_label, slot_labels}
-use Rattle.label_sets.proofs.sweep.list_labels.Goals as goal
+use Rattle.module_sweeps.proofs.lists.list_labels.Goals as goal
 
 one : {A : Type 0} (o : Option A) → option_to_list o ≡ cons_option o []
 one None = refl

@@ -2,7 +2,7 @@ use Rattle.std.proofs.Common.{◌≡◌, ◌≤◌, take}
 use Rattle.std.specs.Prelude.{vec_capacity, vec_len}
 use Rattle.region_sets.specs.Modules.{module_in}
 use Rattle.region_changes.specs.SlotLabels.{slot_labels}
-use Rattle.label_sets.proofs.sweep.list_labels.Given as goal
+use Rattle.module_sweeps.proofs.lists.list_labels.Given as goal
 
 abbrev pub invariant-loop-slot : goal.invariant-loop-slot
 invariant-loop-slot l = record {
