@@ -18,7 +18,7 @@ use Rattle.label_sets.specs.Init.{slots_at, slots_by_size}
 use Rattle.label_sets.specs.Sets.{StoredSets}
 use Rattle.namespace_core.specs.Lists.{IsStateOf}
 use Rattle.cmd_words.specs.declared.commands.Command.{Command}
-use Rattle.cmd_words.specs.declared.commands.Command.TheVariants.{InitLabels, Create, ListSpaces, ListRegions, ListFree, ListHeld}
+use Rattle.cmd_words.specs.declared.commands.Command.TheVariants.{InitLabels, Create, Destroy, Rename, ReleaseHeld, ListSpaces, ListRegions, ListFree, ListHeld}
 use Rattle.cmd_words.specs.declared.commands.Command.TheVariants.{ToModule, ToSpa, ToRuns}
 use Rattle.sessions.specs.declared.faults.RunFault.{RunFault}
 use Rattle.sessions.specs.declared.faults.RunFault.TheVariants.{Area, Memory, Spent}
@@ -60,6 +60,9 @@ current-is m rig P sets spent in_P told all = record {
 pub quiet-area : (P : Platform) (command : Command) (dimm : ℕ) → may_change command (Err (Area dimm)) ≡ false → is_among (written_by P command) dimm ≡ true → ⊥
 quiet-area P (InitLabels other) dimm quiet is = let differ : true ≡ false = quiet in cc
 quiet-area P (Create region size name abstraction sector uuid) dimm quiet is = let differ : true ≡ false = quiet in cc
+quiet-area P (Destroy region key) dimm quiet is = let differ : true ≡ false = quiet in cc
+quiet-area P (Rename region key name) dimm quiet is = let differ : true ≡ false = quiet in cc
+quiet-area P (ReleaseHeld other uuid) dimm quiet is = let differ : true ≡ false = quiet in cc
 quiet-area P (ListSpaces region) dimm quiet is = let differ : false ≡ true = is in cc
 quiet-area P ListRegions dimm quiet is = let differ : false ≡ true = is in cc
 quiet-area P (ListFree region) dimm quiet is = let differ : false ≡ true = is in cc

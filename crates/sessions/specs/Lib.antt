@@ -5,4 +5,3 @@ pub mod Sessions
 pub mod Codes
 pub mod Kept
 pub mod Success
-pub mod Views

@@ -5,7 +5,6 @@
 mod commands;
 mod faults;
 mod session;
-mod views;
 
 pub use faults::{OpenFault, RunFault};
 pub use session::Session;

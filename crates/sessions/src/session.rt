@@ -11,19 +11,17 @@ ghost use Rattle.sessions.specs.Commands.{Does, HasAreas, IsBeforeOrAfter, Leave
 ghost use Rattle.sessions.specs.Faults.{HasOpenCause, HasRunCause, IsOpenAmong, IsRunAmong, IsRunAt, IsSpent, spent_after};
 ghost use Rattle.sessions.specs.Sessions.{IsCurrent, labels_of, opens, slots_of, state_of};
 ghost use Rattle.sessions.specs.Success.{CanCreate, HasCreated};
-ghost use Rattle.sessions.specs.Views.{IsView};
 
 use crate::commands::do_command;
 use crate::faults::{OpenFault, RunFault};
-use crate::views::{module_views, region_views};
 use cmd_words::Command;
 use label_sets::{Sets, read_state};
 use region_map::Platform;
 use rig_trait::Rig;
-use std::alloc::{AllocError, Global};
+use std::alloc::Global;
 use std::marker::Model;
 use uuid::Uuid;
-use view_types::{Reply, View};
+use view_types::Reply;
 
 /// The state that the label storage areas of a platform's modules stand for, as they were read at the start, and as
 /// commands changed it since.
@@ -136,15 +134,5 @@ impl Session {
                 Err(fault)
             }
         }
-    }
-
-    /// The platform with the state that is kept: all regions, with their namespaces and their free extents, and all
-    /// modules, with their held labels. It is that of the areas where the session is not spent.
-    pub fn view(&self, alloc: Global) -> Result<View, AllocError>
-        ensures { IfOk result (IsView self.now) }
-    {
-        let regions = region_views(alloc, &self.platform, &self.sets)?;
-        let modules = module_views(alloc, &self.platform, &self.sets)?;
-        Ok(View { regions, modules })
     }
 }
