@@ -3,7 +3,7 @@ use Rattle.std.specs.Option.{unwrap_or}
 use Rattle.view_types.specs.declared.reply.Reply.{Reply}
 use Rattle.cmd_words.specs.declared.commands.Command.{Command}
 use Rattle.cmd_words.specs.declared.commands.Command.TheVariants as commands
-use Rattle.label_sets.specs.Sets.{labels_in}
+use Rattle.label_sets.specs.Sets.{StoredSets, labels_in}
 use Rattle.namespace_core.specs.declared.creation.ChangeFault.{ChangeFault}
 use Rattle.namespace_core.specs.declared.lists.Query.TheVariants.{Spaces, Regions, Free, Held}
 use Rattle.namespace_core.specs.Lists.{IsShown}
@@ -50,37 +50,41 @@ pub returns-in-ListSpaces : goal.returns-in-ListSpaces
 returns-in-ListSpaces g c =
     let P = c.args.platform.now in
     let L = labels_in c.args.sets.now in
-    subst (λ (command : Command). IsDone g.R.Shown P command c.args.own.now c.args.sets.now c.args.rig.now c.args.sets.now c.args.rig.now (run_by c.told.result)) (sym c.in-ListSpaces.is)
+    subst (λ (after : StoredSets). IsDone g.R.Shown P c.args.command.now c.args.own.now c.args.sets.now c.args.rig.now after c.args.rig.now (run_by c.told.result)) (sym c.show.ensures.same)
+    (subst (λ (command : Command). IsDone g.R.Shown P command c.args.own.now c.args.sets.now c.args.rig.now c.args.sets.now c.args.rig.now (run_by c.told.result)) (sym c.in-ListSpaces.is)
     (subst (λ (answer : Result Reply ChangeFault). IsDone g.R.Shown P (commands.ListSpaces c.in-ListSpaces.region) c.args.own.now c.args.sets.now c.args.rig.now c.args.sets.now c.args.rig.now (run_by answer)) (sym c.told.ensures)
     (tells-done g.R.Shown P c.args.sets.now c.requires.state (commands.ListSpaces c.in-ListSpaces.region) c.args.own.now c.args.rig.now c.show.result
-    (tells-of P L (IsShown P L (Spaces c.in-ListSpaces.region)) c.show.result c.show.ensures) (λ answer. refl) (λ areas now answer. tt) (λ areas said record_of. tt)))
+    (tells-of P L (IsShown P L (Spaces c.in-ListSpaces.region)) c.show.result c.show.ensures.shown) (λ answer. refl) (λ areas now answer. tt) (λ areas said record_of. tt))))
 
 pub returns-in-ListRegions : goal.returns-in-ListRegions
 returns-in-ListRegions g c =
     let P = c.args.platform.now in
     let L = labels_in c.args.sets.now in
-    subst (λ (command : Command). IsDone g.R.Shown P command c.args.own.now c.args.sets.now c.args.rig.now c.args.sets.now c.args.rig.now (run_by c.told-in-ListRegions.result)) (sym c.in-ListRegions.is)
+    subst (λ (after : StoredSets). IsDone g.R.Shown P c.args.command.now c.args.own.now c.args.sets.now c.args.rig.now after c.args.rig.now (run_by c.told-in-ListRegions.result)) (sym c.show-in-ListRegions.ensures.same)
+    (subst (λ (command : Command). IsDone g.R.Shown P command c.args.own.now c.args.sets.now c.args.rig.now c.args.sets.now c.args.rig.now (run_by c.told-in-ListRegions.result)) (sym c.in-ListRegions.is)
     (subst (λ (answer : Result Reply ChangeFault). IsDone g.R.Shown P (commands.ListRegions) c.args.own.now c.args.sets.now c.args.rig.now c.args.sets.now c.args.rig.now (run_by answer)) (sym c.told-in-ListRegions.ensures)
     (tells-done g.R.Shown P c.args.sets.now c.requires.state (commands.ListRegions) c.args.own.now c.args.rig.now c.show-in-ListRegions.result
-    (tells-of P L (IsShown P L (Regions)) c.show-in-ListRegions.result c.show-in-ListRegions.ensures) (λ answer. refl) (λ areas now answer. tt) (λ areas said record_of. tt)))
+    (tells-of P L (IsShown P L (Regions)) c.show-in-ListRegions.result c.show-in-ListRegions.ensures.shown) (λ answer. refl) (λ areas now answer. tt) (λ areas said record_of. tt))))
 
 pub returns-in-ListFree : goal.returns-in-ListFree
 returns-in-ListFree g c =
     let P = c.args.platform.now in
     let L = labels_in c.args.sets.now in
-    subst (λ (command : Command). IsDone g.R.Shown P command c.args.own.now c.args.sets.now c.args.rig.now c.args.sets.now c.args.rig.now (run_by c.told-in-ListFree.result)) (sym c.in-ListFree.is)
+    subst (λ (after : StoredSets). IsDone g.R.Shown P c.args.command.now c.args.own.now c.args.sets.now c.args.rig.now after c.args.rig.now (run_by c.told-in-ListFree.result)) (sym c.show-in-ListFree.ensures.same)
+    (subst (λ (command : Command). IsDone g.R.Shown P command c.args.own.now c.args.sets.now c.args.rig.now c.args.sets.now c.args.rig.now (run_by c.told-in-ListFree.result)) (sym c.in-ListFree.is)
     (subst (λ (answer : Result Reply ChangeFault). IsDone g.R.Shown P (commands.ListFree c.in-ListFree.region) c.args.own.now c.args.sets.now c.args.rig.now c.args.sets.now c.args.rig.now (run_by answer)) (sym c.told-in-ListFree.ensures)
     (tells-done g.R.Shown P c.args.sets.now c.requires.state (commands.ListFree c.in-ListFree.region) c.args.own.now c.args.rig.now c.show-in-ListFree.result
-    (tells-of P L (IsShown P L (Free c.in-ListFree.region)) c.show-in-ListFree.result c.show-in-ListFree.ensures) (λ answer. refl) (λ areas now answer. tt) (λ areas said record_of. tt)))
+    (tells-of P L (IsShown P L (Free c.in-ListFree.region)) c.show-in-ListFree.result c.show-in-ListFree.ensures.shown) (λ answer. refl) (λ areas now answer. tt) (λ areas said record_of. tt))))
 
 pub returns-in-ListHeld : goal.returns-in-ListHeld
 returns-in-ListHeld g c =
     let P = c.args.platform.now in
     let L = labels_in c.args.sets.now in
-    subst (λ (command : Command). IsDone g.R.Shown P command c.args.own.now c.args.sets.now c.args.rig.now c.args.sets.now c.args.rig.now (run_by c.told-in-ListHeld.result)) (sym c.in-ListHeld.is)
+    subst (λ (after : StoredSets). IsDone g.R.Shown P c.args.command.now c.args.own.now c.args.sets.now c.args.rig.now after c.args.rig.now (run_by c.told-in-ListHeld.result)) (sym c.show-in-ListHeld.ensures.same)
+    (subst (λ (command : Command). IsDone g.R.Shown P command c.args.own.now c.args.sets.now c.args.rig.now c.args.sets.now c.args.rig.now (run_by c.told-in-ListHeld.result)) (sym c.in-ListHeld.is)
     (subst (λ (answer : Result Reply ChangeFault). IsDone g.R.Shown P (commands.ListHeld c.in-ListHeld.dimm) c.args.own.now c.args.sets.now c.args.rig.now c.args.sets.now c.args.rig.now (run_by answer)) (sym c.told-in-ListHeld.ensures)
     (tells-done g.R.Shown P c.args.sets.now c.requires.state (commands.ListHeld c.in-ListHeld.dimm) c.args.own.now c.args.rig.now c.show-in-ListHeld.result
-    (tells-of P L (IsShown P L (Held c.in-ListHeld.dimm)) c.show-in-ListHeld.result c.show-in-ListHeld.ensures) (λ answer. refl) (λ areas now answer. tt) (λ areas said record_of. tt)))
+    (tells-of P L (IsShown P L (Held c.in-ListHeld.dimm)) c.show-in-ListHeld.result c.show-in-ListHeld.ensures.shown) (λ answer. refl) (λ areas now answer. tt) (λ areas said record_of. tt))))
 
 pub returns-in-ToModule : goal.returns-in-ToModule
 returns-in-ToModule g c =
