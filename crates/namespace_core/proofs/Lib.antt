@@ -19,3 +19,4 @@ pub mod Passes
 pub mod ChangedSpaces
 pub mod ChangeEnds
 pub mod ChangePasses
+pub mod ReleaseEnds

@@ -9,12 +9,14 @@ mod lists;
 mod recovering;
 mod refusals;
 mod release_refusals;
+mod releasing;
 mod renaming;
 mod translations;
 
 pub use creation::{ChangeFault, create};
 pub use destruction::destroy;
 pub use lists::{Query, show};
+pub use releasing::release_held;
 pub use renaming::rename;
 pub use translations::{to_module, to_runs, to_spa};
 
