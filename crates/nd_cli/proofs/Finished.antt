@@ -11,9 +11,11 @@ use Rattle.label_area.proofs.FairRecords.{IsFair-same}
 use Rattle.region_map.specs.declared.platform.Platform.{Platform}
 use Rattle.sessions.specs.Commands.{has_module}
 use Rattle.sessions.specs.Sessions.{IsCurrent, StoredSession, slots_of, state_of, stored_slots}
+use Rattle.command_runs.proofs.Records.{says-nothing-written}
+use Rattle.command_runs.proofs.Said.{LeavesAreas-same}
 use Rattle.command_runs.specs.declared.faults.LineFault.{LineFault}
 use Rattle.command_runs.specs.declared.faults.LineFault.TheVariants as fault
-use Rattle.command_runs.specs.Areas.{KeepsBytes, LeaveLabels, LeavesBytes, WritesNothing}
+use Rattle.command_runs.specs.Areas.{KeepsBytes, LeaveLabels, LeavesBytes, WritesNothing, initialised_by}
 use Rattle.command_runs.specs.Ends as runs
 use Rattle.command_runs.specs.Ends.{IsCutShort, IsFinished, IsStopped, IsUnchanged, run_of}
 use Rattle.command_runs.specs.Faults.{HasAreaFaults, HasCause, IsAmong, fails_at, is_say}
@@ -31,25 +33,14 @@ use Rattle.nd_cli.proofs.Started.{bytes_left_run, bytes_run, current_state, faul
 
 -- what is said at last changes nothing of what was written
 kept_said : {R : Type 0} (m : Ghosts R) (old mid new : R) (text : List ℕ) (status result : ℕ) → WritesNothing m old mid → Says m mid new text status result → WritesNothing m old new
-kept_said m old mid new text status result kept says = record {
-  areas = says.tells.says_only.areas ∙ kept.areas;
-  any_moment = and_a_call (λ c. c.areas ≡ m.areas old) (IsSaying (m.may_leave mid) (m.said mid) text) kept.any_moment says.tells.stops
-      (λ c saying. saying.areas_are ∙ (m.now_is mid saying.from saying.was).0 ∙ kept.areas);
-}
+kept_said m old mid new text status result kept says = says-nothing-written text says.failed kept says.tells.says_only says.tells.stops
 
 -- nor of what a stop leaves of the bytes
-LeavesBytes-same : (platform : Platform) (all : List (List ℕ)) (areas : Areas) (from c : CrashRecord) → c.areas ≡ from.areas → c.torn ≡ from.torn
-    → LeavesBytes platform all areas from → LeavesBytes platform all areas c
-LeavesBytes-same platform all areas from c areas_are torn_is left = λ dimm. ⊎_elim
-    (λ same. inl (ap (λ (now : Areas). get now dimm) areas_are ∙ same))
-    (λ (may, was). inr (may, λ fair. rw areas_are (was (IsFair-same c from (sym areas_are) (sym torn_is) fair))))
-    (left dimm)
-
 bytes_said : {R : Type 0} (m : Ghosts R) (old mid new : R) (text : List ℕ) (status result : ℕ) (platform : Platform) (all : List (List ℕ)) → LeavesOnly m old mid (LeavesBytes platform all (m.areas old))
     → Says m mid new text status result → LeavesOnly m old new (LeavesBytes platform all (m.areas old))
 bytes_said m old mid new text status result platform all left says =
     and_a_call (LeavesBytes platform all (m.areas old)) (IsSaying (m.may_leave mid) (m.said mid) text) left says.tells.stops
-    (λ c saying. LeavesBytes-same platform all (m.areas old) saying.from c saying.areas_are saying.torn_is
+    (λ c saying. LeavesAreas-same platform (initialised_by platform all) (m.areas old) saying.from c saying.areas_are saying.torn_is
     (left.each saying.from (m.counts_now mid (m.moment old) saying.from left.later saying.was)))
 
 module _ {R : Type 0} (m : Ghosts R) (old start mid : R) (session after : StoredSession) (seed : ℕ) (lines : List (List ℕ)) (read : Reads m old start)

@@ -1,37 +1,22 @@
 -- What is promised where one thing is known is promised where another is, from which it follows.
 use Rattle.std.proofs.Common.{◌≡◌, ◌⊎◌, ℕ, zero, suc, List, ◌++◌, Option, Some, None, Result, Ok, Err, inl, inr, ⊎_elim, false}
 use Rattle.cmd_words.specs.declared.commands.Command.{Command}
-use Rattle.cmd_words.specs.declared.commands.Command.TheVariants.{InitLabels, Create, ListSpaces, ListRegions, ListFree, ListHeld}
-use Rattle.cmd_words.specs.declared.commands.Command.TheVariants.{ToModule, ToSpa, ToRuns}
 use Rattle.cmd_words.specs.Lines.{command_in}
-use Rattle.label_area.specs.Fair.{IsFair}
 use Rattle.label_table.specs.Tables.{State}
-use Rattle.region_map.specs.declared.platform.Platform.{Platform}
 use Rattle.rig_trait.specs.Areas.{Areas}
 use Rattle.rig_trait.specs.Records.{CrashRecord}
-use Rattle.sessions.specs.Commands.{SaysIfKnown, has_module}
 use Rattle.view_types.specs.declared.reply.Reply.{Reply}
 use Rattle.view_types.specs.declared.word_fault.WordFault.{WordFault}
+use Rattle.command_runs.proofs.Commands.{says-on}
 use Rattle.command_runs.specs.Runs.{DoesCommand, DoesLine, DoesNext, Follows, IsBehind, Progress, Run}
 use Rattle.command_runs.specs.Stops.{HasNextTable, IsBetween, IsLeft, SaysPart}
 
 module _ (known now : Type 0) (knows : now → known) where
-  says-known : (platform : Platform) (command : Command) (fact : Type 0) → SaysIfKnown platform command known fact → SaysIfKnown platform command now fact
-  says-known platform (InitLabels dimm) fact says = λ why. says (⊎_elim (λ is. inl (knows is)) inr why)
-  says-known platform (Create region size name abstraction sector uuid) fact says = says
-  says-known platform (ListSpaces region) fact says = says
-  says-known platform ListRegions fact says = says
-  says-known platform (ListFree region) fact says = says
-  says-known platform (ListHeld dimm) fact says = says
-  says-known platform (ToModule region spa) fact says = says
-  says-known platform (ToSpa region dimm dpa) fact says = says
-  says-known platform (ToRuns region spa len) fact says = says
-
   module _ (run : Run) where
     line-known : (number : ℕ) (before : State) (line : Result (Option Command) WordFault) (reply : Option Reply) (after : State)
         → DoesLine known run number before line reply after → DoesLine now run number before line reply after
     line-known number before (Ok (Some command)) (Some reply) after does =
-        record { labels = does.labels; stands = does.stands; does = says-known run.platform command _ does.does }
+        record { labels = does.labels; stands = does.stands; does = says-on run.platform command known now _ knows does.does }
     line-known number before (Ok (Some command)) None after does = does
     line-known number before (Ok None) reply after does = does
     line-known number before (Err fault) reply after does = does

@@ -3,7 +3,7 @@ use Rattle.std.proofs.Common.{◌≡◌, ℕ, false, Option, Some, None, Err, re
 use Rattle.std.specs.Prelude.{IsSome}
 use Rattle.rig_trait.specs.declared.shown.Shown as rigs
 use Rattle.rig_trait.specs.declared.source.Source as sources
-use Rattle.rig_trait.specs.Frames.{GoesOn, Reads}
+use Rattle.sessions.proofs.Telling.{no_call}
 use Rattle.rig_trait.specs.Sources.{Draws, TellsLeft}
 use Rattle.nd_cli.specs.declared.faults.ReadFault.{ReadFault}
 use Rattle.nd_cli.specs.declared.faults.ReadFault.TheVariants as reads
@@ -19,29 +19,6 @@ use Rattle.nd_cli.specs.Words.{Asked, LabelsOf, DoLine, RunInput}
 -- nothing was asked of the source
 unread : {N : Type 0} (n : sources.Ghosts N) (source : N) → Draws n source source false
 unread n source = record { tells = refl; faults = refl }
-
--- nor of the rig
-no_call : {R : Type 0} (m : rigs.Ghosts R) (rig : R) → Reads m rig rig
-no_call m rig = record {
-  areas = refl;
-  said = refl;
-  say_faults = refl;
-  time = record {
-    later = omega arith;
-    nothing_else = λ t c past left. inl left;
-    keeps = λ t c past left. left;
-    left_is = λ c left. left;
-    joins = λ t c past left. inl left;
-  };
-  goes_on = record {
-    tells = refl;
-    tells_records = λ told. told;
-    sizes = λ told q. refl;
-    faults = omega arith;
-    say_faults = omega arith;
-    reads = omega arith;
-  };
-}
 
 -- memory was refused while the words were looked at
 pub unasked : {R N I : Type 0} (m : rigs.Ghosts R) (n : sources.Ghosts N) (i : sources.Ghosts I) (seed : ℕ) (asked : Option Asked) (old new : R) (nfit : N) (input : I) (status : ℕ)

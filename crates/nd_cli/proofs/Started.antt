@@ -14,6 +14,7 @@ use Rattle.label_table.specs.Tables.{State, state, table}
 use Rattle.module_flips.specs.Stored.{stored_labels}
 use Rattle.region_map.specs.declared.platform.Platform.{Platform}
 use Rattle.sessions.specs.Sessions.{IsCurrent, StoredSession, labels_of, slots_of, state_of, stored_slots}
+use Rattle.command_runs.proofs.Records.{read-only, writes-nothing}
 use Rattle.command_runs.specs.declared.faults.LineFault.{LineFault}
 use Rattle.command_runs.specs.declared.faults.LineFault.TheVariants.{Area, Memory, Say}
 use Rattle.command_runs.specs.Areas.{KeepsBytes, LeaveLabels, LeavesBytes, WritesNothing}
@@ -83,11 +84,7 @@ module _ {R : Type 0} (m : Ghosts R) (old mid : R) (session : StoredSession) (se
       (any_moment (current told)))
 
   pub kept_run : (new : R) → WritesNothing m mid new → WritesNothing m old new
-  kept_run new kept = record {
-    areas = kept.areas ∙ read.areas;
-    any_moment = joined (reading (λ c. c.areas ≡ m.areas old) (λ c same said_is. same) read)
-        (weakened (λ c. c.areas ≡ m.areas mid) (λ c. c.areas ≡ m.areas old) (λ c same. same ∙ read.areas) kept.any_moment);
-  }
+  kept_run new kept = writes-nothing (read-only read) kept
 
   pub bytes_run : (new : R) (outcome : Result Bool LineFault) → (IsCurrent m mid session → KeepsBytes (fails_at outcome) session.platform lines (m.areas mid) (m.areas new))
       → IsTold m old → KeepsBytes (fails_at outcome) session.platform lines (m.areas old) (m.areas new)
