@@ -15,9 +15,9 @@ from pathlib import Path
 from check_creates import U1, U2, create, created
 from check_lists import FIRST, PAIR, ROOT, image as images, run as do, space
 from check_random import image, questions
-from check_steps import SLOTS, command_on, line_of
+from check_steps import SLOTS, line_of
 from platform_images import MIB, area, write
-from step_rows import calmed
+from step_rows import any_command, calmed
 
 MOST = 1 << 20
 """As many bytes may the input have."""
@@ -107,7 +107,7 @@ def any_line(chance: random.Random, model) -> tuple:
     if kind < 0.4:
         line, text = chance.choice(questions(model))
         return line, text, model
-    command, words = command_on(chance, model)
+    command, words = any_command(chance, model)
     after, text = command(model, *words)
     return line_of(command, words), text, after
 

@@ -18,18 +18,6 @@ from step_rows import any_command, calmed
 
 SLOTS = {slot_count(size): size for size in SIZES}
 
-# The commands that the program has; the model has more.
-COMMANDS = (init_labels, create_namespace)
-
-
-def command_on(chance: random.Random, model):
-    """A command that the program has, with words that make sense on the model, or nearly so."""
-    while True:
-        command, words = any_command(chance, model)
-        if command in COMMANDS:
-            return command, words
-
-
 def line_of(command, words: tuple) -> str:
     """The line of a command with these words."""
     if command is init_labels:
@@ -62,7 +50,7 @@ def main() -> int:
             folder = Path(scratch, str(number))
             write(folder, table, areas)
             for _ in range(12):
-                command, words = command_on(chance, model)
+                command, words = any_command(chance, model)
                 model, text = command(model, *words)
                 accepted += text.startswith("ok")
                 asked = questions(model) if text.startswith("ok") else []
