@@ -33,8 +33,11 @@ use Rattle.command_runs.proofs.Records.{read-only, says-nothing-written, still-c
 pub LeavesAreas-same : (platform : Platform) (named : List ℕ) (areas : Areas) (from c : CrashRecord) → c.areas ≡ from.areas → c.torn ≡ from.torn → LeavesAreas platform named areas from → LeavesAreas platform named areas c
 LeavesAreas-same platform named areas from c areas_are torn_is left q = elim (left q) [
   | inl same ↦ inl (ap (λ (a : Areas). get a q) areas_are ∙ same)
-  | inr (may, ready) ↦ inr (may, λ fair. subst (λ (a : Areas). (area_kind (get a q) ≡ Uninit) ⊎ IsVacant (get a q) (slots_of (get areas q))) (sym areas_are)
-      (ready (IsFair-same c from (sym areas_are) (sym torn_is) fair)))
+  | inr (may, ready) ↦ inr (
+    may,
+    λ fair. subst (λ (a : Areas). (area_kind (get a q) ≡ Uninit) ⊎ IsVacant (get a q) (slots_of (get areas q))) (sym areas_are)
+        (ready (IsFair-same c from (sym areas_are) (sym torn_is) fair)),
+  )
 ]
 
 -- no reply is empty

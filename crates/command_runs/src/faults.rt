@@ -1,7 +1,5 @@
 //! Why a list of lines is not done to its end.
 
-
-
 /// The fault that ends a list of lines.
 #[derive(Clone, Copy, Debug, PartialEq, Eq)]
 pub enum LineFault {

@@ -95,7 +95,10 @@ fn holds(rt: &impl Abort, alloc: Global, rig: &mut MemoryRig) -> Result<(), Fail
     let listed = rig.said().get(said..).ok_or("nothing is taken back")?;
     let stands = listed.ends_with(b"ok namespaces=1\n");
     assert!(rt; stands || listed == b"ok namespaces=0\n".as_slice());
-    assert!(rt; if stands { said >= FIRST } else { said < SECOND }, "{said} bytes were said");
+    assert!(rt;
+        if stands { said >= FIRST } else { said < SECOND },
+        "{said} bytes were said"
+    );
     Ok(())
 }
 

@@ -861,13 +861,26 @@ fn stops_of_renames(rt: HostRuntime) -> Result<(), Fail> {
     for ways in WAYS {
         let setting = Setting::of(alloc, ways)?;
         let behind = 2 * u64::from(ways);
-        change_each(&rt, alloc, &setting, &mut silent, &rename(), behind, &[(EARLIER, false)])?;
+        change_each(
+            &rt,
+            alloc,
+            &setting,
+            &mut silent,
+            &rename(),
+            behind,
+            &[(EARLIER, false)],
+        )?;
     }
     Ok(())
 }
 
 /// The first module gives up its label of a namespace whose last module was replaced.
-fn released(rt: &impl Abort, alloc: Global, setting: &Setting, command: &Command) -> Result<Done, Fail> {
+fn released(
+    rt: &impl Abort,
+    alloc: Global,
+    setting: &Setting,
+    command: &Command,
+) -> Result<Done, Fail> {
     let mut rig = left_rig(alloc, setting, 0, Earlier::Finished)?;
     let last = handle(setting.ways.saturating_sub(1));
     rig.add(last, ready_area(alloc, 1, &[0xee; 256])?)?;
