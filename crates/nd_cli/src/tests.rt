@@ -34,6 +34,9 @@ const OTHER_FAILED: &str = "error area dimm=0x00000101\n";
 
 const OTHER_MISSING: &str = "refused not-ready missing dimm=0x00000101\n";
 
+/// The seed of a run that makes no uuid, or whose uuids are not looked at.
+const SEED: u128 = 1;
+
 const REGIONS: &str =
     "  region index=1 spa=0x0000000100000000 size=137438953472 ways=2 cookie=0x0002e2420000346b status=missing dimm=0x00000101\nok regions=1\n";
 
@@ -65,9 +68,20 @@ fn input_of(alloc: Global, text: &str) -> Result<MemorySource, AllocError> {
 
 /// Runs a row over a rig, on that platform and with no input.
 fn run_on(rt: &impl Abort, alloc: Global, rig: &mut MemoryRig, row: Row) -> Result<(), Fail> {
+    run_seeded(rt, alloc, rig, SEED, row)
+}
+
+/// The same with a seed.
+fn run_seeded(
+    rt: &impl Abort,
+    alloc: Global,
+    rig: &mut MemoryRig,
+    seed: u128,
+    row: Row,
+) -> Result<(), Fail> {
     let mut source = platform(alloc, Vec::new(alloc))?;
     let mut input = input_of(alloc, "")?;
-    run_with(rt, alloc, rig, &mut source, &mut input, row)
+    run_with(rt, alloc, rig, &mut source, &mut input, seed, row)
 }
 
 /// Runs the form `run` with the bytes of an input.
@@ -87,6 +101,7 @@ fn run_input(
         rig,
         &mut source,
         &mut input,
+        SEED,
         Row("run .", status, said),
     )
 }
@@ -97,12 +112,13 @@ fn run_with(
     rig: &mut MemoryRig,
     source: &mut MemorySource,
     input: &mut MemorySource,
+    seed: u128,
     row: Row,
 ) -> Result<(), Fail> {
     let Row(line, wanted, text) = row;
     let before = rig.said().len();
     let words = words(alloc, line)?;
-    let status = nd_top(alloc, &words, rig, source, input, 1);
+    let status = nd_top(alloc, &words, rig, source, input, seed);
     let said = rig.said().get(before..).ok_or("nothing is taken back")?;
     assert_eq!(rt; status, wanted, "{words:?}");
     assert_eq!(rt; said, text.as_bytes(), "{words:?}");
@@ -296,7 +312,7 @@ fn faults_of_the_source(rt: HostRuntime) -> Result<(), Fail> {
         rig.fail_at(vec![in alloc; call]?);
         let mut source = platform(alloc, vec![in alloc; read]?)?;
         let mut input = input_of(alloc, "")?;
-        run_with(&rt, alloc, &mut rig, &mut source, &mut input, row)?;
+        run_with(&rt, alloc, &mut rig, &mut source, &mut input, SEED, row)?;
         assert_eq!(rt; source.faults(), faults);
     }
     Ok(())
@@ -357,25 +373,25 @@ fn creates(rt: HostRuntime) -> Result<(), Fail> {
     Ok(())
 }
 
-/// A seed, and the uuid of a namespace for which the line gives none, as another library makes it.
+/// A seed, and the reply to a create whose line gives no uuid, with the one that another library makes.
 const SEEDS: [(u128, &str); 2] = [
-    (0, "11116e73-1c03-5de6-9130-5f9925ae8ab4"),
-    (1, "c6ae59cd-4100-5d14-850d-f8202b722a98"),
+    (
+        0,
+        "ok created uuid=11116e73-1c03-5de6-9130-5f9925ae8ab4 region=1 offset=0 length=2097152 size=4194304 spare=1\n",
+    ),
+    (
+        1,
+        "ok created uuid=c6ae59cd-4100-5d14-850d-f8202b722a98 region=1 offset=0 length=2097152 size=4194304 spare=1\n",
+    ),
 ];
 
 #[test]
 fn seeds(rt: HostRuntime) -> Result<(), Fail> {
     let alloc = rt.alloc();
-    let words = words(alloc, "do . create-namespace region=1 size=4M")?;
-    for (seed, uuid) in SEEDS {
+    for (seed, said) in SEEDS {
         let mut rig = both(alloc)?;
-        let mut source = platform(alloc, Vec::new(alloc))?;
-        let mut input = input_of(alloc, "")?;
-        assert_eq!(rt;
-            nd_top(alloc, &words, &mut rig, &mut source, &mut input, seed),
-            0
-        );
-        assert_eq!(rt; rig.said().get(16..52), Some(uuid.as_bytes()));
+        let row = Row("do . create-namespace region=1 size=4M", 0, said);
+        run_seeded(&rt, alloc, &mut rig, seed, row)?;
     }
     Ok(())
 }
@@ -507,7 +523,7 @@ fn inputs(rt: HostRuntime) -> Result<(), Fail> {
         let comment = vec![in alloc; b'#'; size]?;
         let mut input = MemorySource::new(comment, vec![in alloc; read]?);
         let row = Row("run .", status, said);
-        run_with(&rt, alloc, &mut rig, &mut source, &mut input, row)?;
+        run_with(&rt, alloc, &mut rig, &mut source, &mut input, SEED, row)?;
         assert_eq!(rt; rig.reads(), reads);
     }
     Ok(())
