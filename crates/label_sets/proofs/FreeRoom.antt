@@ -4,6 +4,8 @@ use Rattle.std.proofs.lemmas.List.{get_or-map}
 use Rattle.std.proofs.lemmas.List.Elements.{All-get_or}
 use Rattle.std.proofs.lemmas.Option.{get_or_from_slice_get, none-some}
 use Rattle.view_types.specs.declared.extents.Extent.{Extent}
+use Rattle.view_types.specs.declared.states.Status.{Status}
+use Rattle.std.specs.Option.{option_and_then}
 use Rattle.std.specs.Prelude.{IfNone, IfSome, IsSome, slice_get}
 use Rattle.view_types.specs.Intervals.{IsFirstFit, NoneFits, greatest_aligned, is_free}
 use Rattle.module_labels.specs.Labels.{Labels}
@@ -11,6 +13,7 @@ use Rattle.region_map.specs.declared.platform.Platform.{Platform}
 use Rattle.region_map.specs.declared.platform.Region.{Region}
 use Rattle.region_map.specs.Platforms.{region_at}
 use Rattle.label_table.specs.Division.{AreFreeExtents, alignment, part_size}
+use Rattle.label_table.specs.Statuses.{status}
 use Rattle.label_table.proofs.Partition.{maximal-one}
 use Rattle.label_table.specs.Division.{is_common_free}
 use Rattle.extent_alloc.specs.Free.{FreeSpace}
@@ -18,11 +21,12 @@ use Rattle.region_sets.specs.declared.modules.LoadedModule.{LoadedModule}
 use Rattle.region_sets.specs.declared.region.RegionLabels.{RegionLabels}
 use Rattle.region_sets.specs.Fates.{platform_of, region_in}
 use Rattle.region_sets.specs.Modules as modules
+use Rattle.region_sets.specs.Statuses.{shown_status}
 use Rattle.label_sets.specs.declared.sets.Sets.TheInside.{Inside}
 use Rattle.label_sets.specs.Free.{space_at}
 use Rattle.label_sets.specs.Kept.{IsFree, IsKept, IsKnownFree, shown}
 use Rattle.label_sets.specs.Largest.{IsLargestOf, TellsLargest}
-use Rattle.label_sets.specs.Lookups.{FitsFirst, FitsFirstIn, IsFitIn, IsKeptRegion}
+use Rattle.label_sets.specs.Lookups.{AreFreeOf, FitsFirst, FitsFirstIn, IsFitIn, IsKeptRegion, TellsFree, in_region}
 use Rattle.region_sets.specs.Regions.{IsOver}
 use Rattle.label_sets.specs.Sets.{StoredSets, labels_in, platform_in}
 use Rattle.label_sets.specs.Views.{IsPlaceOf}
@@ -80,6 +84,29 @@ module _ (inside : Inside) (sets : StoredSets) (same : shown inside ≡ sets) (i
       let region : region_at P index ≡ Some kept.region = region_found inside index place kept lt is_region found in
       subst (λ (s : StoredSets). TellsLargest s index (Some size)) same (subst (λ (r : Option Region). IsLargestOf P L r (Some size)) (sym region)
       (λ extents are. size_is ∙ ap (λ n. min (length kept.region.members * n) (2 ^ 64 - 1)) (kept_is P L kept.region free whole.extents extents are)))
+
+  pub tells_free : (place : ℕ) (kept : RegionLabels) (free : FreeSpace) → place < length inside.regions.items → kept ≡ get_or inside.regions.items place kept → IsFree inside.modules.items inside.regions.items kept free
+      → IsPlaceOf (map region_in inside.regions.items) index (Some place) → (extents : List Extent) → extents ≡ free.extents → TellsFree sets index (Some extents)
+  tells_free place kept free lt is_region whole found extents are =
+      let P = platform_of inside.regions.items in
+      let L = modules.labels_in inside.modules.items in
+      subst (λ (s : StoredSets). TellsFree s index (Some extents)) same (subst (λ (r : Option Region). AreFreeOf P L r (Some extents)) (sym (region_found inside index place kept lt is_region found))
+      (subst (AreFreeExtents P L kept.region) (sym are) whole.extents))
+
+  pub free_none : IsPlaceOf (map region_in inside.regions.items) index None → TellsFree sets index None
+  free_none none = subst (λ (s : StoredSets). TellsFree s index None) same (subst (λ (found : Option Region). AreFreeOf (platform_in (shown inside)) (labels_in (shown inside)) found None) (sym none) tt)
+
+  -- the region at a place has the status that is told
+  pub tells_status : (place : ℕ) (kept : RegionLabels) → place < length inside.regions.items → kept ≡ get_or inside.regions.items place kept → IsPlaceOf (map region_in inside.regions.items) index (Some place)
+      → (told : Status) → told ≡ shown_status (status (modules.labels_in inside.modules.items) kept.region) → Some told ≡ in_region sets index (λ r. Some (shown_status (status (labels_in sets) r)))
+  tells_status place kept lt is_region found told is =
+      subst (λ (s : StoredSets). Some told ≡ in_region s index (λ r. Some (shown_status (status (labels_in s) r)))) same
+      (ap Some is ∙ ap (option_and_then (λ (r : Region). Some (shown_status (status (modules.labels_in inside.modules.items) r)))) (sym (region_found inside index place kept lt is_region found)))
+
+  pub no_status : IsPlaceOf (map region_in inside.regions.items) index None → None ≡ in_region sets index (λ r. Some (shown_status (status (labels_in sets) r)))
+  no_status none =
+      subst (λ (s : StoredSets). None ≡ in_region s index (λ r. Some (shown_status (status (labels_in s) r)))) same
+      (ap (option_and_then (λ (r : Region). Some (shown_status (status (modules.labels_in inside.modules.items) r)))) (sym none))
 
   pub fits_none : IsPlaceOf (map region_in inside.regions.items) index None → (len : ℕ) → FitsFirst sets index len None
   fits_none none len = subst (λ (s : StoredSets). FitsFirst s index len None) same (subst (λ (found : Option Region). FitsFirstIn (platform_in (shown inside)) (labels_in (shown inside)) len found None) (sym none) refl)

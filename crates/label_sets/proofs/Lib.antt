@@ -14,5 +14,6 @@ pub mod FreeAfter
 pub mod Stageable
 pub mod Written
 pub mod EntryCounts
+pub mod KnownReady
 pub mod Passes
 pub mod Renamed

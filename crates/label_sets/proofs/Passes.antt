@@ -22,11 +22,12 @@ use Rattle.namespace_healing.specs.Passes.{label_number, room_in}
 use Rattle.label_sets.specs.declared.sets.Sets.TheInside.{Inside}
 use Rattle.label_sets.specs.Dropping.{CanDropIn}
 use Rattle.label_sets.specs.Healing.{CanHealIn}
-use Rattle.label_sets.specs.Kept.{HasFewMembers, IsKept, IsKnownFree, shown}
+use Rattle.label_sets.specs.Kept.{HasFewMembers, IsKept, IsKnownFree, IsKnownReady, shown}
 use Rattle.label_sets.specs.Room.{HasRoom}
 use Rattle.module_sweeps.specs.Sweeps.{HasSlotsWithin}
 use Rattle.label_sets.specs.Sets.{StoredSets, platform_in}
 use Rattle.label_sets.specs.Staging.{OfRegion}
+use Rattle.label_sets.proofs.KnownReady.{ready-kept}
 use Rattle.label_sets.proofs.EntryCounts.{counts-at, room-kept}
 use Rattle.label_sets.proofs.FreeAfter.{known-kept}
 use Rattle.label_sets.proofs.Stageable.{one-size-of, region-listed}
@@ -98,15 +99,16 @@ module _ (inside : Inside) (kept : IsKept inside) (ms : List LoadedModule) (rs :
       subst (λ (s : StoredSets). Holds s (record { regions = map region_in (with_items inside.regions regions_now).items; modules = (with_items inside.modules now).items; room = room })) before
       (subst (λ (t : StoredSets). Holds (record { regions = map region_in rs; modules = ms; room = inside.room }) t) after holds)
 
-  pub still-kept : (free : Option (List FreeSpace)) (room : Bool) → IsKnownFree now regions_now free → (room ≡ true → HasRoom regions_now free) → IsKept (record {
+  pub still-kept : (free : Option (List FreeSpace)) (ready : Option ℕ) (room : Bool) → IsKnownFree now regions_now free → IsKnownReady now regions_now ready → (room ≡ true → HasRoom regions_now free) → IsKept (record {
     modules = with_items inside.modules now;
     regions = with_items inside.regions regions_now;
     free = free;
+    ready = ready;
     slots = inside.slots;
     lost = inside.lost;
     room = room;
   })
-  still-kept free room known has =
+  still-kept free ready room known is_ready has =
       let items = (with_items inside.regions regions_now).items in
       let all : IsTogether (with_items inside.modules now).items items = subst (λ xs. IsTogether xs items) modules-back (subst (IsTogether now) regions-back together.together) in
       record {
@@ -116,6 +118,7 @@ module _ (inside : Inside) (kept : IsKept inside) (ms : List LoadedModule) (rs :
         disjoint = all.disjoint;
         over = all.over;
         free = subst (λ xs. IsKnownFree xs items free) modules-back (subst (λ ys. IsKnownFree now ys free) regions-back known);
+        ready = subst (λ xs. IsKnownReady xs items ready) modules-back (subst (λ ys. IsKnownReady now ys ready) regions-back is_ready);
         few = subst (All HasFewMembers) regions-back (few-still regions_now inside.regions.items same-regions kept.few);
         slots = subst (All (HasSlotsWithin (vec_capacity inside.slots))) modules-back (slots-still _ now inside.modules.items (together.slots ∙ ap (map _) m) kept.slots);
         lost = subst (All (HasSlotsWithin (vec_capacity inside.lost))) modules-back (slots-still _ now inside.modules.items (together.slots ∙ ap (map _) m) kept.lost);
@@ -126,6 +129,12 @@ module _ (inside : Inside) (kept : IsKept inside) (ms : List LoadedModule) (rs :
   pub free-after : table (platform_of rs) (labels_in now) ≡ table (platform_of rs) (labels_in ms) → IsKnownFree now regions_now inside.free
   free-after same_table =
       known-kept inside.modules.items inside.regions.items kept.disjoint now regions_now same-regions inside.free kept.free
+      (subst (λ xs. table (platform_of inside.regions.items) (labels_in now) ≡ table (platform_of inside.regions.items) (labels_in xs)) m
+      (subst (λ ys. table (platform_of ys) (labels_in now) ≡ table (platform_of ys) (labels_in ms)) n same_table))
+
+  pub ready-after : (ready : Option ℕ) → IsKnownReady inside.modules.items inside.regions.items ready → table (platform_of rs) (labels_in now) ≡ table (platform_of rs) (labels_in ms) → IsKnownReady now regions_now ready
+  ready-after ready known same_table =
+      ready-kept inside.modules.items inside.regions.items kept.disjoint now regions_now same-regions ready known
       (subst (λ xs. table (platform_of inside.regions.items) (labels_in now) ≡ table (platform_of inside.regions.items) (labels_in xs)) m
       (subst (λ ys. table (platform_of ys) (labels_in now) ≡ table (platform_of ys) (labels_in ms)) n same_table))
 

@@ -21,7 +21,7 @@ use Rattle.module_sweeps.specs.Sweeps.{HasNoMoreEntries, HasSlotsWithin, IsSwept
 use Rattle.module_sweeps.proofs.FreedModules.{no_module}
 use Rattle.namespace_healing.proofs.Passing.{still-kept}
 use Rattle.label_sets.specs.declared.sets.Sets.TheInside.{Inside}
-use Rattle.label_sets.specs.Kept.{IsKept, IsKnownFree}
+use Rattle.label_sets.specs.Kept.{IsKept, IsKnownFree, IsKnownReady}
 use Rattle.label_sets.specs.Room.{HasRoom}
 use Rattle.label_sets.proofs.Written.{back-is, few-still, same-count, slots-still}
 
@@ -66,14 +66,15 @@ written-back fact modules regions ms rs now regions_now same same_regions stays 
 
 -- Modules and regions that go together as before are kept as before, with the free extents and the room that are known.
 pub kept-still : (before now : Inside) → IsKept before → StaysTogether before.modules.items before.regions.items now.modules.items now.regions.items → IsKnownFree now.modules.items now.regions.items now.free
-    → vec_capacity before.slots ≤ vec_capacity now.slots → vec_capacity before.lost ≤ vec_capacity now.lost → (now.room ≡ true → HasRoom now.regions.items now.free) → IsKept now
-kept-still before now kept stays free slots lost room = record {
+    → IsKnownReady now.modules.items now.regions.items now.ready → vec_capacity before.slots ≤ vec_capacity now.slots → vec_capacity before.lost ≤ vec_capacity now.lost → (now.room ≡ true → HasRoom now.regions.items now.free) → IsKept now
+kept-still before now kept stays free ready slots lost room = record {
   once = stays.together.once;
   own = stays.together.own;
   in_use = stays.together.in_use;
   disjoint = stays.together.disjoint;
   over = stays.together.over;
   free = free;
+  ready = ready;
   few = few-still now.regions.items before.regions.items stays.same_regions kept.few;
   slots = within-more (vec_capacity before.slots) (vec_capacity now.slots) now.modules.items slots (slots-still (vec_capacity before.slots) now.modules.items before.modules.items stays.slots kept.slots);
   lost = within-more (vec_capacity before.lost) (vec_capacity now.lost) now.modules.items lost (slots-still (vec_capacity before.lost) now.modules.items before.modules.items stays.slots kept.lost);
@@ -84,12 +85,14 @@ pub kept-together : (inside : Inside) → IsKept inside → IsTogether inside.mo
 kept-together inside kept = record { once = kept.once; own = kept.own; in_use = kept.in_use; disjoint = kept.disjoint; over = kept.over }
 
 -- where modules and regions did not change, all is kept
-pub kept-unchanged : (before now : Inside) → IsKept before → now.modules.items ≡ before.modules.items → now.regions.items ≡ before.regions.items → now.free ≡ before.free → vec_capacity before.slots ≤ vec_capacity now.slots
+pub kept-unchanged : (before now : Inside) → IsKept before → now.modules.items ≡ before.modules.items → now.regions.items ≡ before.regions.items → now.free ≡ before.free → now.ready ≡ before.ready → vec_capacity before.slots ≤ vec_capacity now.slots
     → vec_capacity before.lost ≤ vec_capacity now.lost → now.room ≡ before.room → IsKept now
-kept-unchanged before now kept m r free slots lost room =
+kept-unchanged before now kept m r free ready slots lost room =
     kept-still before now kept (still-kept before.modules.items before.regions.items now.modules.items now.regions.items (kept-together before kept) m r).together
     (subst (IsKnownFree now.modules.items now.regions.items) (sym free)
     (subst (λ ys. IsKnownFree now.modules.items ys before.free) (sym r) (subst (λ xs. IsKnownFree xs before.regions.items before.free) (sym m) kept.free)))
+    (subst (IsKnownReady now.modules.items now.regions.items) (sym ready)
+    (subst (λ ys. IsKnownReady now.modules.items ys before.ready) (sym r) (subst (λ xs. IsKnownReady xs before.regions.items before.ready) (sym m) kept.ready)))
     slots lost (λ has. subst (HasRoom now.regions.items) (sym free) (subst (λ ys. HasRoom ys before.free) (sym r) (kept.room (sym room ∙ has))))
 
 -- the module with a handle is swept, where the one at its seat is

@@ -2,8 +2,11 @@
 use Rattle.std.specs.Prelude.{◌≡◌, ℕ, ◌<◌, ◌^◌, true, IfSome, List, Option, length, map, slice_index_or, vec_capacity}
 use Rattle.std.specs.List.{All}
 use Rattle.extent_alloc.specs.Free.{FreeSpace}
+use Rattle.module_labels.specs.Labels.{Labels}
+use Rattle.region_map.specs.declared.platform.Region.{Region}
 use Rattle.label_table.specs.Belonging.{IsDisjoint}
 use Rattle.label_table.specs.Division.{AreFreeExtents, part_size}
+use Rattle.label_table.specs.Statuses.{RegionReady, status}
 use Rattle.region_sets.specs.declared.modules.LoadedModule.{LoadedModule}
 use Rattle.region_sets.specs.declared.region.RegionLabels.{RegionLabels}
 use Rattle.region_sets.specs.Fates.{platform_of, region_in}
@@ -31,6 +34,15 @@ pub record AllFree (modules : List LoadedModule) (regions : List RegionLabels) (
 abbrev pub IsKnownFree : List LoadedModule → List RegionLabels → Option (List FreeSpace) → Type 0
 IsKnownFree modules regions free = IfSome free (AllFree modules regions)
 
+-- the region at a place is Ready
+abbrev pub IsReadyIn : Labels → List Region → ℕ → Type 0
+IsReadyIn labels regions place = (place < length regions)
+    × ((d : Region) → status labels (slice_index_or regions place d) ≡ RegionReady)
+
+-- so it is where one is known to be
+abbrev pub IsKnownReady : List LoadedModule → List RegionLabels → Option ℕ → Type 0
+IsKnownReady modules regions ready = IfSome ready (IsReadyIn (labels_in modules) (map region_in regions))
+
 -- a region has few members
 abbrev pub HasFewMembers : RegionLabels → Type 0
 HasFewMembers kept = length kept.region.members < 2 ^ 16
@@ -45,6 +57,7 @@ pub record IsKept (sets : Inside) : Type 0 where
   pub disjoint : IsDisjoint (platform_of sets.regions.items)
   pub over : All (IsOver sets.modules.items) sets.regions.items
   pub free : IsKnownFree sets.modules.items sets.regions.items sets.free
+  pub ready : IsKnownReady sets.modules.items sets.regions.items sets.ready
   pub few : All HasFewMembers sets.regions.items
   -- the slots of any module can be listed without memory
   pub slots : All (HasSlotsWithin (vec_capacity sets.slots)) sets.modules.items

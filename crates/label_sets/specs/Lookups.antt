@@ -45,6 +45,16 @@ abbrev pub FitsFirst : StoredSets → ℕ → ℕ → Option ℕ → Type 0
 FitsFirst sets index len found =
     FitsFirstIn (platform_in sets) (labels_in sets) len (region_at (platform_in sets) index) found
 
+-- the free extents of a region
+abbrev pub AreFreeOf : Platform → Labels → Option Region → Option (List Extent) → Type 0
+AreFreeOf platform labels None None = Unit {0}
+AreFreeOf platform labels None (Some extents) = ⊥
+AreFreeOf platform labels (Some region) None = ⊥
+AreFreeOf platform labels (Some region) (Some extents) = AreFreeExtents platform labels region extents
+
+abbrev pub TellsFree : StoredSets → ℕ → Option (List Extent) → Type 0
+TellsFree sets index found = AreFreeOf (platform_in sets) (labels_in sets) (region_at (platform_in sets) index) found
+
 -- what is kept of a region, over the modules
 pub record IsKeptRegion (sets : StoredSets) (index : ℕ) (kept : RegionLabels) : Type 0 where
   pub over : IsOver sets.modules kept

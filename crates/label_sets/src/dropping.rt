@@ -60,6 +60,7 @@ impl Sets {
     {
         self.room = false;
         self.free.forget();
+        self.ready = None;
         match platform.region(region) {
             Some(found) => drop_labels(rig, &mut self.modules, &mut self.regions, found, uuid),
             None => unreachable!(),

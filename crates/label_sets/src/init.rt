@@ -137,6 +137,7 @@ impl Sets {
         ) {
             Ok(lists) => {
                 self.free = FreeExtents::known(lists.free);
+                self.ready = None;
                 self.slots = lists.slots;
                 self.lost = lists.lost;
                 self.room = false;

@@ -16,6 +16,7 @@ mod renaming;
 mod room;
 mod sets;
 mod staging;
+mod statuses;
 mod sweep;
 mod views;
 

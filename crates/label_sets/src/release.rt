@@ -74,6 +74,7 @@ impl Sets {
         ) {
             Ok(count) => {
                 self.free.forget();
+                self.ready = None;
                 self.room = false;
                 Ok(count)
             }

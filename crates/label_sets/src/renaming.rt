@@ -61,6 +61,8 @@ impl Sets {
             HasAreaCause (handles found) R.Shown rig.old rig.new result) }
         ensures reads { R.reads rig.new ≡ R.reads rig.old }
     {
+        self.ready = None;
+        self.ready = None;
         match platform.region(region) {
             Some(found) => {
                 change_first(rig, &mut self.modules, &mut self.regions, found, uuid, name)

@@ -24,6 +24,8 @@ pub struct Sets {
     pub(crate) regions: Vec<RegionLabels>,
     /// The free extents of each region, where they are known.
     pub(crate) free: FreeExtents,
+    /// The place of a region that is known to be Ready.
+    pub(crate) ready: Option<usize>,
     /// The slots that one flip frees, and the labels there. They have the memory for all slots of any module.
     pub(crate) slots: Vec<u32>,
     pub(crate) lost: Vec<SlotLabel>,
@@ -69,6 +71,7 @@ impl Sets {
             modules,
             regions,
             free,
+            ready: None,
             slots,
             lost,
             room: false,

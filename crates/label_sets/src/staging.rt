@@ -71,6 +71,7 @@ impl Sets {
         ensures reads { R.reads rig.new ≡ R.reads rig.old }
     {
         self.room = false;
+        self.ready = None;
         let (Some(found), Some(place)) = (platform.region(region), place_of(&self.regions, region))
         else {
             unreachable!()

@@ -78,6 +78,11 @@ refusal_by (shown.Unusable rule) = Some (refusals.Unusable rule)
 refusal_by (shown.Area dimm state) = Some (NotReady (shown.Area dimm state))
 refusal_by (shown.Clash first second) = Some (NotReady (shown.Clash first second))
 
+-- why nothing is told of the region with this index, where the platform has it with this status
+abbrev pub refusal_of : ℕ → Option Status → Option Refusal
+refusal_of index None = Some (refusals.UnknownRegion index)
+refusal_of index (Some status) = refusal_by status
+
 -- the namespaces of a region's view
 abbrev pub listed_in_view : RegionView → List Listed
 listed_in_view view = map (listed_by view.index view.ways) view.namespaces

@@ -13,8 +13,7 @@ ghost use Rattle.table_steps.specs.Refusals.{no_slots_in, unhealed_in};
 ghost use Rattle.namespace_core.specs.Create.{IsCreateRefusal, first_named};
 ghost use Rattle.namespace_core.specs.Lists.{IsStateOf};
 
-use crate::lists::ready_view;
-use crate::refusals::Unanswered;
+use crate::lists::learned_refusal;
 use label_sets::Sets;
 use region_lookups::Named;
 use region_map::{Platform, Region};
@@ -37,10 +36,10 @@ pub(crate) fn create_refusal(
     ensures same { sets.new ≡ sets.old }
     ensures refusal { IfOk result (IsCreateRefusal platform.now (labels_in sets.old) asked.now) }
 {
-    match ready_view(alloc, platform, sets, asked.region) {
-        Ok(_) => (),
-        Err(Unanswered::Refused(refusal)) => return Ok(Some(refusal)),
-        Err(Unanswered::Memory) => return Err(AllocError),
+    match learned_refusal(alloc, platform, sets, asked.region) {
+        Ok(None) => (),
+        Ok(Some(refusal)) => return Ok(Some(refusal)),
+        Err(fault) => return Err(fault),
     }
     let Some(region) = platform.region(asked.region) else {
         // The state has no other regions.

@@ -15,13 +15,13 @@ ghost use Rattle.namespace_core.specs.Keys.{IsChosen, IsOnly, IsRefusedBy, key_r
 ghost use Rattle.namespace_core.specs.Lists.{IsStateOf};
 
 use crate::create_refusals::{is_unnamed, no_slots, unhealed};
-use crate::lists::ready_view;
+use crate::lists::region_refusal;
 use crate::refusals::Unanswered;
 use cmd_words::NameKey;
 use label_sets::Sets;
 use region_lookups::Named;
 use region_map::Platform;
-use std::alloc::Global;
+use std::alloc::{AllocError, Global};
 use view_types::{Namespace, Refusal};
 
 /// Each module of the region needs a spare slot, for the labels that are written before any is freed.
@@ -93,9 +93,10 @@ fn chosen_space(
     ensures refused { (more : List (Option Refusal)) → IfErr result
         (IsRefusedBy (first_of (keyed platform.now (labels_in sets.now) index key.now more))) }
 {
-    match ready_view(alloc, platform, sets, index) {
-        Ok(_) => (),
-        Err(unanswered) => return Err(unanswered),
+    match region_refusal(alloc, platform, sets, index) {
+        Ok(None) => (),
+        Ok(Some(refusal)) => return Err(Unanswered::Refused(refusal)),
+        Err(AllocError) => return Err(Unanswered::Memory),
     }
     match unhealed(sets, index) {
         Some(refusal) => Err(Unanswered::Refused(refusal)),

@@ -1,10 +1,11 @@
 //! The commands that list the state of the label storage areas (UEFI 2.7, section 13.19).
 
-ghost use Rattle.std.specs.Prelude.{◌≡◌, ◌++◌, IfErr, IfOk, OnOk};
+ghost use Rattle.std.specs.Prelude.{◌≡◌, ◌++◌, IfErr, IfOk, None, OnOk};
 ghost use Rattle.label_sets.specs.Sets.{labels_in};
 ghost use Rattle.label_table.specs.Statuses.{status};
 ghost use Rattle.region_map.specs.Platforms.{IsSound, region_at};
-ghost use Rattle.namespace_core.specs.Lists.{AreRegions, AreSpaces, IsFree, IsHeld, IsReadyView, IsShown, IsStateOf, IsUnread, listed_in_view, refusal_by, shown_region, spaces_by, spaces_of, spaces_of_all};
+ghost use Rattle.table_steps.specs.Refusals.{first_of};
+ghost use Rattle.namespace_core.specs.Lists.{AreRegions, AreSpaces, IsFree, IsHeld, IsReadyView, IsShown, IsStateOf, IsUnread, listed_in_view, refusal_by, refusal_of, shown_region, spaces_by, spaces_of, spaces_of_all, unread};
 
 use crate::refusals::Unanswered;
 use label_sets::Sets;
@@ -164,18 +165,31 @@ fn free_extents(
     ensures same { sets.new ≡ sets.old }
     ensures free { IfOk result (IsFree platform.now (labels_in sets.old) index) }
 {
-    let view = match ready_view(alloc, platform, sets, index) {
-        Ok(view) => view,
-        Err(Unanswered::Refused(refusal)) => return Ok(Reply::Refused(refusal)),
-        Err(Unanswered::Memory) => return Err(AllocError),
-    };
-    match sets.largest(alloc, index)? {
-        Some(largest) => Ok(Reply::Free {
-            extents: view.free,
-            largest,
-        }),
+    match learned_refusal(alloc, platform, sets, index) {
+        Ok(None) => free_reply(alloc, platform, sets, index),
+        Ok(Some(refusal)) => Ok(Reply::Refused(refusal)),
+        Err(fault) => Err(fault),
+    }
+}
+
+/// The same of a region that is Ready.
+fn free_reply(
+    alloc: Global,
+    platform: &Platform,
+    sets: &mut Sets,
+    index: u16,
+) -> Result<Reply, AllocError>
+    requires state { IsStateOf platform.now sets.old }
+    requires unrefused { first_of (unread platform.now (labels_in sets.old) index) ≡ None }
+    ensures same { sets.new ≡ sets.old }
+    ensures free { IfOk result (IsFree platform.now (labels_in sets.old) index) }
+{
+    let extents = sets.free_extents(alloc, index)?;
+    let largest = sets.largest(alloc, index)?;
+    match (extents, largest) {
+        (Some(extents), Some(largest)) => Ok(Reply::Free { extents, largest }),
         // The state has the region.
-        None => unreachable!(),
+        _ => unreachable!(),
     }
 }
 
@@ -200,6 +214,47 @@ fn held_labels(
         state => Ok(Reply::Refused(Refusal::NotReady {
             status: Status::Area { dimm, state },
         })),
+    }
+}
+
+/// The first refusal of a command that asks for a region that is Ready.
+pub(crate) fn region_refusal(
+    alloc: Global,
+    platform: &Platform,
+    sets: &Sets,
+    index: u16,
+) -> Result<Option<Refusal>, AllocError>
+    requires state { IsStateOf platform.now sets.now }
+    ensures { IfOk result (λ refusal. refusal ≡ first_of (unread platform.now (labels_in sets.now) index)) }
+{
+    Ok(refusal_of(sets.status(alloc, index)?, index))
+}
+
+/// The same. A region that is Ready is known to be so from then on.
+pub(crate) fn learned_refusal(
+    alloc: Global,
+    platform: &Platform,
+    sets: &mut Sets,
+    index: u16,
+) -> Result<Option<Refusal>, AllocError>
+    requires state { IsStateOf platform.now sets.old }
+    ensures same { sets.new ≡ sets.old }
+    ensures refusal { IfOk result (λ refusal. refusal
+        ≡ first_of (unread platform.now (labels_in sets.old) index)) }
+{
+    match sets.learn_status(alloc, index) {
+        Ok(status) => Ok(refusal_of(status, index)),
+        Err(fault) => Err(fault),
+    }
+}
+
+/// Why nothing is told of the region with this index and status.
+fn refusal_of(status: Option<Status>, index: u16) -> Option<Refusal>
+    ensures { result ≡ refusal_of index status }
+{
+    match status {
+        Some(status) => refusal_by(status),
+        None => Some(Refusal::UnknownRegion { region: index }),
     }
 }
 

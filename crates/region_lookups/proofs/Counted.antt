@@ -108,3 +108,13 @@ module _ (L : Labels) (r : Region) where
       (first-same p by_slot (listed_spaces L r) tally.first
       (λ t c. Contains-permutation by_slot (listed_spaces L r) t permutes c)
       (λ t c. Contains-permutation (listed_spaces L r) by_slot t (IsPermutation-sym by_slot (listed_spaces L r) permutes) c) is.first)
+
+-- One namespace more, of which it is known whether it passes.
+pub tally-found : (p : Namespace → Bool) (ns : List Namespace) (space found : Option Namespace) (tally now : Tally) → found ≡ option_filter p space → IsTally p ns tally
+    → ((n : Namespace) → found ≡ Some n → IsTally p (ns ++ n ∷ []) now) → (found ≡ None → now ≡ tally) → IsTally p (ns ++ option_to_list space) now
+tally-found p ns None found tally now is before some none = subst (IsTally p (ns ++ [])) (sym (none is)) (subst (λ xs. IsTally p xs tally) (sym (append-nil ns)) before)
+tally-found p ns (Some n) found tally now is before some none = by (p n) refl
+  where
+    by : (b : Bool) → p n ≡ b → IsTally p (ns ++ n ∷ []) now
+    by true e = some n (is ∙ ap (λ b. cond b (Some n) None) e)
+    by false e = subst (IsTally p (ns ++ n ∷ [])) (sym (none (is ∙ ap (λ b. cond b (Some n) None) e))) (tally-fails p ns n tally before e)

@@ -1,5 +1,6 @@
 pub mod Ordered
 pub mod Counted
+mod Leading
 pub mod Neighbours
 pub mod Standing
 pub mod Pendings

@@ -17,8 +17,11 @@ abbrev pub listed_spaces : Labels → Region → List Namespace
 listed_spaces labels region = map (listed_in labels region) (namespaces labels region)
 
 -- names are compared up to their first zero byte
+abbrev pub is_name : List ℕ → List ℕ → Bool
+is_name name other = bytes_eq (name_before_zero name) (name_before_zero other)
+
 abbrev pub has_name : List ℕ → Namespace → Bool
-has_name name space = bytes_eq (name_before_zero name) (name_before_zero space.name)
+has_name name space = is_name name space.name
 
 -- and another uuid
 abbrev pub has_name_beside : List ℕ → List ℕ → Namespace → Bool

@@ -1,14 +1,15 @@
 //! Namespaces that are looked for among all those of a region.
 
-ghost use Rattle.std.specs.Prelude.{◌≡◌, ◌+◌, ◌<◌, ◌++◌, ◌∷◌, ◌^◌, [], true, Bool, List, count_by, find};
+ghost use Rattle.std.specs.Prelude.{◌≡◌, ◌+◌, ◌<◌, ◌++◌, ◌∷◌, ◌^◌, [], true, Bool, IfSome, List, Option, count_by, find};
 ghost use Rattle.std.specs.Option.{option_and_then, option_copied, option_to_list};
+ghost use Rattle.std.proofs.lemmas.Map.Entries.{option_filter};
 ghost use Rattle.view_types.specs.declared.namespaces.Namespace.{Namespace};
 ghost use Rattle.label_codec.specs.Names.{name_before_zero};
 ghost use Rattle.region_sets.specs.Marks.{namespace_at};
 ghost use Rattle.region_sets.specs.Modules.{labels_in};
 ghost use Rattle.region_sets.specs.Regions.{IsOver};
-ghost use Rattle.region_lookups.specs.Spaces.{has_name, is_before, is_sought, listed_spaces};
-ghost use Rattle.region_lookups.specs.Tallies.{IsFirst, IsFirstSuch, IsTally};
+ghost use Rattle.region_lookups.specs.Spaces.{has_name, is_before, is_name, is_sought, listed_spaces};
+ghost use Rattle.region_lookups.specs.Tallies.{IsFirst, IsFirstSuch, IsTally, Leads, may_lead};
 
 use label_codec::Label;
 use region_sets::{LoadedModule, RegionLabels};
@@ -47,37 +48,47 @@ pub(crate) fn tally_of(modules: &[LoadedModule], kept: &RegionLabels, sought: &S
     }
     let leading = kept.module_at(modules, 0);
     for slot in 0..leading.slots() {
-        tally = tally.with(sought, namespace_of(modules, kept, leading.label(slot)));
+        tally = tally.with(namespace_of(modules, kept, sought, leading.label(slot)));
     }
     tally
 }
 
-/// The namespace of the region with a label's uuid.
+/// The namespace of the region with the uuid of a label of position 0, where it is looked for.
 fn namespace_of(
     modules: &[LoadedModule],
     kept: &RegionLabels,
+    sought: &Sought,
     label: Option<&Label>,
 ) -> Option<Namespace>
-    requires { IsOver modules.now kept.now }
-    ensures { result ≡ option_and_then (λ l. namespace_at (labels_in modules.now) kept.now.region l.uuid)
-        (option_copied label.entry) }
+    requires over { IsOver modules.now kept.now }
+    requires leads { IfSome (option_copied label.entry) (Leads (labels_in modules.now) kept.now.region) }
+    ensures { result ≡ option_filter (is_sought sought.now) (option_and_then
+        (λ l. namespace_at (labels_in modules.now) kept.now.region l.uuid) (option_copied label.entry)) }
 {
-    kept.namespace(modules, &label?.uuid)
+    let label = label?;
+    // A namespace has the name of its label of position 0, so that most uuids need not be looked up.
+    if !sought.may_lead(label) {
+        return None;
+    }
+    let space = kept.namespace(modules, &label.uuid)?;
+    if sought.matches(&space) {
+        Some(space)
+    } else {
+        None
+    }
 }
 
 impl Tally {
-    /// With one namespace more, where it is looked for.
-    fn with(self, sought: &Sought, space: Option<Namespace>) -> Tally
+    /// With one namespace more, if it is looked for.
+    fn with(self, found: Option<Namespace>) -> Tally
         requires { self.count + 1 < 2 ^ 32 }
-        ensures { (spaces : List Namespace) → IsTally (is_sought sought.now) spaces self
-            → IsTally (is_sought sought.now) (spaces ++ option_to_list space) result }
+        ensures { (test : Namespace → Bool) (spaces : List Namespace) (space : Option Namespace)
+            → found ≡ option_filter test space → IsTally test spaces self
+            → IsTally test (spaces ++ option_to_list space) result }
     {
-        let Some(space) = space else {
+        let Some(space) = found else {
             return self;
         };
-        if !sought.matches(&space) {
-            return self;
-        }
         Tally {
             count: self.count + 1,
             first: Some(self.first_with(space)),
@@ -103,23 +114,36 @@ impl Tally {
 }
 
 impl Sought {
+    /// The namespace that a label leads may be looked for.
+    fn may_lead(&self, label: &Label) -> bool
+        ensures { result ≡ may_lead self.now label.now }
+    {
+        match self {
+            Sought::Named { name } => is_name(name, &label.name),
+            Sought::NamedBeside { name, .. } => is_name(name, &label.name),
+            Sought::Pending => true,
+        }
+    }
+
     /// A namespace is looked for.
     fn matches(&self, space: &Namespace) -> bool
         ensures { result ≡ is_sought self.now space.now }
     {
         match self {
-            Sought::Named { name } => has_name(name, space),
-            Sought::NamedBeside { name, uuid } => has_name(name, space) && *uuid != space.uuid,
+            Sought::Named { name } => is_name(name, &space.name),
+            Sought::NamedBeside { name, uuid } => {
+                is_name(name, &space.name) && *uuid != space.uuid
+            }
             Sought::Pending => space.pending,
         }
     }
 }
 
-/// The namespace has this name, up to the first zero byte of each.
-fn has_name(name: &[u8; 64], space: &Namespace) -> bool
-    ensures { result ≡ has_name name.now space.now }
+/// A name is this one, up to the first zero byte of each.
+fn is_name(name: &[u8; 64], other: &[u8; 64]) -> bool
+    ensures { result ≡ is_name name.now other.now }
 {
-    before_zero(name) == before_zero(&space.name)
+    before_zero(name) == before_zero(other)
 }
 
 /// The bytes before the first zero byte.

@@ -1,4 +1,4 @@
-use Rattle.std.proofs.Common.{◌≡◌, List, Some, sym, ap, subst, ◌∙◌}
+use Rattle.std.proofs.Common.{◌≡◌, List, None, Some, sym, ap, subst, ◌∙◌}
 use Rattle.std.specs.List.{All}
 use Rattle.std.specs.Option.{option_copied}
 use Rattle.std.specs.Result.{OnOk}
@@ -41,8 +41,9 @@ invariant_of-self g c =
     can-heal c.args.platform.now inside kept c.args.self.now c.self.view_is c.requires.platform c.args.region r (sym c.region.ensures ∙ ap option_copied c.in-Some.is) ms rs m n c.requires.sound c.args.uuid.now c.requires.rename in
     let known : IsKnownFree ms rs inside.free =
     subst (λ (xs : List LoadedModule). IsKnownFree xs rs inside.free) (sym m) (subst (λ (ys : List RegionLabels). IsKnownFree inside.modules.items ys inside.free) (sym n) kept.free) in
-    still-kept inside kept ms rs m n now regions did.together inside.free inside.room
+    still-kept inside kept ms rs m n now regions did.together inside.free None inside.room
     (known-renamed ms rs r c.args.uuid.now c.args.name.now can now regions did.together.same_regions inside.free known c.change_first.result did.renamed did.kept)
+    tt
     (room-after inside kept ms rs m n now regions did.together did.room did.counts)
 
 pub returns-clause-renamed : goal.returns-clause-renamed

@@ -1,4 +1,4 @@
-use Rattle.std.proofs.Common.{false, sym, ap, subst, ◌∙◌}
+use Rattle.std.proofs.Common.{None, false, sym, ap, subst, ◌∙◌}
 use Rattle.std.specs.List.{All}
 use Rattle.std.specs.Option.{option_copied}
 use Rattle.std.specs.Result.{OnOk}
@@ -18,7 +18,7 @@ invariant_of-self g c =
     let now = c.drop_labels.new.modules in
     let regions = c.drop_labels.new.regions in
     still-kept c.self.inside c.self.invariant c.deref_mut.result.now c.deref_mut-in-Some.result.now c.deref_mut.ensures.value c.deref_mut-in-Some.ensures.value now regions c.drop_labels.ensures.together
-    c.forget.new.self false (subst (IsKnownFree now regions) (sym c.forget.ensures) tt) (λ e. absurd (false≢true e))
+    c.forget.new.self None false (subst (IsKnownFree now regions) (sym c.forget.ensures) tt) tt (λ e. absurd (false≢true e))
 
 pub returns-clause-stands : goal.returns-clause-stands
 returns-clause-stands g c = λ told.

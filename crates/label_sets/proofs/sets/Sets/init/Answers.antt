@@ -25,7 +25,7 @@ use Rattle.module_flips.specs.Stored.{StandsIn}
 use Rattle.module_labels.specs.Flips.{with_module}
 use Rattle.module_flips.specs.Stops.{IsOneOf, LeftIn}
 use Rattle.label_sets.specs.Init.{IsInitialisedTo, initialised_state, slots_at, state_at, vacant_module}
-use Rattle.label_sets.specs.Kept.{AllFree, IsKnownFree}
+use Rattle.label_sets.specs.Kept.{AllFree, IsKnownFree, IsKnownReady}
 use Rattle.label_sets.specs.Sets.{StoredSets, labels_in, platform_in, state_in}
 use Rattle.module_sweeps.specs.Sweeps.{ChangesOnly, HasSlotsWithin}
 use Rattle.label_sets.specs.Views.{area_state}
@@ -82,6 +82,7 @@ invariant_of-self g c =
       over = subst (λ ms. All (IsOver ms) c.self.inside.regions.items) m (subst (All (IsOver new)) c.deref-2.ensures.value to.over);
       free = subst (IsKnownFree (with_items c.self.inside.modules new).items c.self.inside.regions.items) (sym c.known.ensures)
           (subst (λ ms. AllFree ms c.self.inside.regions.items c.in-Ok-init_at.lists.free.items) m (subst (λ rs. AllFree new rs c.in-Ok-init_at.lists.free.items) c.deref-2.ensures.value c.in-Ok-init_at.ensures.free));
+      ready = tt;
       few = kept.few;
       slots = subst (All (HasSlotsWithin (vec_capacity c.in-Ok-init_at.lists.slots))) m c.in-Ok-init_at.ensures.slots;
       lost = subst (All (HasSlotsWithin (vec_capacity c.in-Ok-init_at.lists.lost))) m c.in-Ok-init_at.ensures.lost;
@@ -101,6 +102,7 @@ invariant_of-self-in-Err-init_at g c =
       disjoint = kept.disjoint;
       over = subst (λ ms. All (IsOver ms) c.self.inside.regions.items) m kept.over;
       free = subst (λ ms. IsKnownFree ms c.self.inside.regions.items c.self.inside.free) m kept.free;
+      ready = subst (λ ms. IsKnownReady ms c.self.inside.regions.items c.self.inside.ready) m kept.ready;
       few = kept.few;
       slots = subst (All (HasSlotsWithin (vec_capacity c.self.inside.slots))) m kept.slots;
       lost = subst (All (HasSlotsWithin (vec_capacity c.self.inside.lost))) m kept.lost;

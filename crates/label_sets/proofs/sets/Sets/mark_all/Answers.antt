@@ -14,7 +14,7 @@ use Rattle.module_flips.specs.Stored.{StandsIn}
 use Rattle.namespace_marking.specs.Marking.{IsMarked}
 use Rattle.label_sets.specs.Marking.{IsMarkedIn}
 use Rattle.label_sets.specs.Sets.{platform_in, state_in}
-use Rattle.label_sets.proofs.Passes.{can-heal, found-there, free-after, room-after, seen, still-kept}
+use Rattle.label_sets.proofs.Passes.{can-heal, found-there, free-after, ready-after, room-after, seen, still-kept}
 use Rattle.label_sets.proofs.sets.Sets.mark_all.Goals as goal
 
 pub mark_labels-requires-clause-can : goal.mark_labels-requires-clause-can
@@ -33,8 +33,9 @@ invariant_of-self g c =
     let did = c.mark_labels.ensures in
     let now = c.mark_labels.new.modules in
     let regions = c.mark_labels.new.regions in
-    still-kept inside kept ms rs m n now regions did.together inside.free inside.room
+    still-kept inside kept ms rs m n now regions did.together inside.free inside.ready inside.room
     (free-after inside kept ms rs m n now regions did.together did.table)
+    (ready-after inside kept ms rs m n now regions did.together inside.ready kept.ready did.table)
     (room-after inside kept ms rs m n now regions did.together did.room did.counts)
 
 pub returns-clause-stands : goal.returns-clause-stands

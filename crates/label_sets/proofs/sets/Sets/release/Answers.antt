@@ -45,7 +45,7 @@ invariant_of-self g c =
     c.deref_mut.ensures.value c.deref_mut-2.ensures.value c.in-Ok.ensures.released.together c.in-Ok.ensures.released in
     kept-still c.self.inside _ c.self.invariant to.together
     (subst (IsKnownFree (with_items c.self.inside.modules c.release_labels.new.modules).items (with_items c.self.inside.regions c.release_labels.new.regions).items) (sym c.forget.ensures) tt)
-    c.release_labels.ensures.slots c.release_labels.ensures.lost (λ has. apart has)
+    tt c.release_labels.ensures.slots c.release_labels.ensures.lost (λ has. apart has)
 
 pub invariant_of-self-in-Err : goal.invariant_of-self-in-Err
 invariant_of-self-in-Err g c =
@@ -53,7 +53,7 @@ invariant_of-self-in-Err g c =
     let rs = c.self.inside.regions in
     let did = c.in-Err.ensures in
     kept-unchanged c.self.inside _ c.self.invariant (back-is ms c.release_labels.new.modules c.deref_mut.result.now c.deref_mut.ensures.value (ap length did.kept) ∙ did.kept ∙ c.deref_mut.ensures.value)
-    (back-is rs c.release_labels.new.regions c.deref_mut-2.result.now c.deref_mut-2.ensures.value (ap length did.kept_regions) ∙ did.kept_regions ∙ c.deref_mut-2.ensures.value) refl
+    (back-is rs c.release_labels.new.regions c.deref_mut-2.result.now c.deref_mut-2.ensures.value (ap length did.kept_regions) ∙ did.kept_regions ∙ c.deref_mut-2.ensures.value) refl refl
     c.release_labels.ensures.slots c.release_labels.ensures.lost refl
 
 pub returns-in-Ok-clause-count : goal.returns-in-Ok-clause-count

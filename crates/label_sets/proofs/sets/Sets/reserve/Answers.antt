@@ -6,8 +6,9 @@ use Rattle.std.proofs.lemmas.Option.{IfSome_then}
 use Rattle.extent_alloc.specs.Free.{FreeSpace}
 use Rattle.label_table.specs.Belonging.{IsDisjoint}
 use Rattle.region_sets.specs.Fates.{with_regions}
+use Rattle.region_sets.specs.Modules.{labels_in}
 use Rattle.region_sets.specs.declared.region.RegionLabels.{RegionLabels}
-use Rattle.label_sets.specs.Kept.{AllFree}
+use Rattle.label_sets.specs.Kept.{AllFree, IsReadyIn}
 use Rattle.label_sets.specs.Room.{HaveExtentRoom, without_room}
 use Rattle.label_sets.specs.Sets.{StoredSets}
 use Rattle.label_sets.proofs.Rooms.{has-room, known-still, same-length, same-regions, still-few, still-free, still-over, written-is, written-same}
@@ -34,6 +35,7 @@ invariant_of-self c =
       disjoint = subst (λ rs. IsDisjoint (with_regions rs)) (sym (same-regions now was same)) kept.disjoint;
       over = still-over now was same c.self.inside.modules.items kept.over;
       free = IfSome_then c.self.inside.free kept.free (still-free now was same c.self.inside.modules.items);
+      ready = subst (λ qs. IfSome c.self.inside.ready (IsReadyIn (labels_in c.self.inside.modules.items) qs)) (sym (same-regions now was same)) kept.ready;
       few = still-few now was same kept.few;
       slots = kept.slots;
       lost = kept.lost;
@@ -70,6 +72,7 @@ invariant_of-self-in_err-reserve c =
       disjoint = subst (λ rs. IsDisjoint (with_regions rs)) (sym (same-regions now was same)) kept.disjoint;
       over = still-over now was same c.self.inside.modules.items kept.over;
       free = known-still c.reserve.new.self c.self.inside.free c.reserve.ensures.same c.self.inside.modules.items now (IfSome_then c.self.inside.free kept.free (still-free now was same c.self.inside.modules.items));
+      ready = subst (λ qs. IfSome c.self.inside.ready (IsReadyIn (labels_in c.self.inside.modules.items) qs)) (sym (same-regions now was same)) kept.ready;
       few = still-few now was same kept.few;
       slots = kept.slots;
       lost = kept.lost;
@@ -100,6 +103,7 @@ invariant_of-self-2 c =
       disjoint = subst (λ rs. IsDisjoint (with_regions rs)) (sym (same-regions now was same)) kept.disjoint;
       over = still-over now was same c.self.inside.modules.items kept.over;
       free = known-still c.reserve.new.self c.self.inside.free c.reserve.ensures.same c.self.inside.modules.items now (IfSome_then c.self.inside.free kept.free (still-free now was same c.self.inside.modules.items));
+      ready = subst (λ qs. IfSome c.self.inside.ready (IsReadyIn (labels_in c.self.inside.modules.items) qs)) (sym (same-regions now was same)) kept.ready;
       few = still-few now was same kept.few;
       slots = kept.slots;
       lost = kept.lost;

@@ -57,6 +57,7 @@ invariant_of-self g c =
       over = all.over;
       free = subst (λ xs. IsKnownFree xs (with_items rs c.stage_in.new.regions).items c.stage_in.new.free) m
           (subst (λ ys. IsKnownFree c.stage_in.new.modules ys c.stage_in.new.free) r c.stage_in.ensures.free);
+      ready = tt;
       few = few-still _ rs.items (ap (map region_in) (sym r) ∙ together.same_regions ∙ ap (map region_in) c.deref_mut-2.ensures.value) kept.few;
       slots = slots-still _ _ ms.items (ap (map _) (sym m) ∙ together.slots ∙ ap (map _) c.deref_mut.ensures.value) kept.slots;
       lost = slots-still _ _ ms.items (ap (map _) (sym m) ∙ together.slots ∙ ap (map _) c.deref_mut.ensures.value) kept.lost;

@@ -12,6 +12,7 @@ use Rattle.module_flips.specs.Stored.{StandsIn}
 use Rattle.module_sweeps.specs.Sweeps.{ChangesOnly, IsSweptTo}
 use Rattle.label_sets.specs.Sets.{StoredSets}
 use Rattle.label_sets.proofs.FreeAfter.{known-kept}
+use Rattle.label_sets.proofs.KnownReady.{ready-kept}
 use Rattle.label_sets.proofs.SpareSlots.{spare-there}
 use Rattle.label_sets.proofs.SweptSets.{kept-still, kept-unchanged, room-left, seat-named, swept-named, written-back}
 use Rattle.label_sets.proofs.Written.{back-is, same-count}
@@ -23,7 +24,7 @@ invariant_of-self g c =
     let rs = c.self.inside.regions in
     let did = c.in-Err.ensures in
     kept-unchanged c.self.inside _ c.self.invariant (back-is ms c.sweep_labels.new.modules c.deref_mut.result.now c.deref_mut.ensures.value (ap length did.kept) ∙ did.kept ∙ c.deref_mut.ensures.value)
-    (back-is rs c.sweep_labels.new.regions c.deref_mut-2.result.now c.deref_mut-2.ensures.value (ap length did.kept_regions) ∙ did.kept_regions ∙ c.deref_mut-2.ensures.value) refl c.sweep_labels.ensures.slots
+    (back-is rs c.sweep_labels.new.regions c.deref_mut-2.result.now c.deref_mut-2.ensures.value (ap length did.kept_regions) ∙ did.kept_regions ∙ c.deref_mut-2.ensures.value) refl refl c.sweep_labels.ensures.slots
     c.sweep_labels.ensures.lost refl
 
 pub returns-in-Err-clause-writes_only : goal.returns-in-Err-clause-writes_only
@@ -54,7 +55,8 @@ invariant_of-self-2 g c =
     c.deref_mut-2.ensures.value c.in_default.ensures.swept.together c.in_default.ensures.swept in
     let same_table : table (platform_of rs) (labels_in now) ≡ table (platform_of rs) (labels_in ms) =
     subst (λ (qs : List Region). table (with_regions qs) (labels_in now) ≡ table (platform_of rs) (labels_in ms)) to.together.same_regions (ap (λ (s : State). s.table) to.same_state) in
-    kept-still c.self.inside _ kept to.together (known-kept ms rs kept.disjoint now regions to.together.same_regions c.self.inside.free kept.free same_table) c.sweep_labels.ensures.slots c.sweep_labels.ensures.lost
+    kept-still c.self.inside _ kept to.together (known-kept ms rs kept.disjoint now regions to.together.same_regions c.self.inside.free kept.free same_table)
+    (ready-kept ms rs kept.disjoint now regions to.together.same_regions c.self.inside.ready kept.ready same_table) c.sweep_labels.ensures.slots c.sweep_labels.ensures.lost
     (λ has. room-left rs regions c.self.inside.free to.together.same_regions to.entries (kept.room has))
 
 pub returns-clause-swept : goal.returns-clause-swept
