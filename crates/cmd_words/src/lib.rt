@@ -16,6 +16,3 @@ pub use commands::Command;
 pub use lines::read_line;
 pub use name_keys::NameKey;
 pub use numbers::read_number;
-
-#[cfg(test)]
-mod tests;

@@ -13,6 +13,3 @@ pub use lines::lines_of;
 pub use replies::{is_refused, say_reply};
 pub use runs::run_lines;
 pub use uuids::own_uuid;
-
-#[cfg(test)]
-mod tests;

@@ -13,6 +13,3 @@ mod steps;
 pub use extents::Extents;
 pub use iter::Iter;
 pub use steps::Steps;
-
-#[cfg(test)]
-mod tests;

@@ -84,6 +84,3 @@ fn word_but(bytes: &[u8], hole: usize, i: usize) -> u32
         word_at(bytes, i)
     }
 }
-
-#[cfg(test)]
-mod tests;

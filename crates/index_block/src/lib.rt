@@ -14,6 +14,3 @@ pub use geometry::{
     WINDOW_BYTES,
 };
 pub use write::write_block;
-
-#[cfg(test)]
-mod tests;

@@ -15,6 +15,3 @@ pub use blocks::{BlockKinds, Current};
 pub use init::InitFault;
 pub use layouts::Layouts;
 pub use load::AreaFault;
-
-#[cfg(test)]
-mod tests;

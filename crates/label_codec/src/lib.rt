@@ -8,6 +8,3 @@ mod names;
 pub use flags::{LOCAL, READ_ONLY, UPDATING};
 pub use label::{LABEL_LEN, Label, read_label, write_label};
 pub use names::name_text;
-
-#[cfg(test)]
-mod tests;

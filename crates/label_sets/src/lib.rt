@@ -25,6 +25,3 @@ pub use load::SetFault;
 pub use module_flips::AreaFailed;
 pub use read::read_state;
 pub use sets::Sets;
-
-#[cfg(test)]
-mod tests;

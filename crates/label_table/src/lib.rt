@@ -11,6 +11,3 @@ pub use laws::{
     dead_label_laws, division_laws, flip_laws, region_laws, settling_laws, status_laws, table_laws,
 };
 pub use plain::{ModuleLabels, all_ready, is_dead, is_doubled, is_whole};
-
-#[cfg(test)]
-mod tests;

@@ -19,8 +19,3 @@ pub use lists::{Query, show};
 pub use releasing::release_held;
 pub use renaming::rename;
 pub use translations::{to_module, to_runs, to_spa};
-
-#[cfg(test)]
-mod release_tests;
-#[cfg(test)]
-mod tests;

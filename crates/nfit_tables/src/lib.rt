@@ -20,6 +20,3 @@ pub use pieces::{
 };
 pub use reading::read_nfit;
 pub use writing::{fits, write_nfit};
-
-#[cfg(test)]
-mod tests;

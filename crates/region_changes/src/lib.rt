@@ -12,6 +12,3 @@ pub use by_slot::{SlotLabel, slot_label, slot_labels};
 pub use follow::{follow_free, follow_put};
 pub use laws::{area_laws, free_laws, module_laws, room_laws};
 pub use rooms::reserve;
-
-#[cfg(test)]
-mod tests;

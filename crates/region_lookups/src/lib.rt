@@ -12,6 +12,3 @@ pub use holders::holder_of;
 pub use named::{Named, namespaces_named, other_named};
 pub use pending::first_pending;
 pub use positions::{ModuleSpare, first_without_spare, free_slots_at, spare_at};
-
-#[cfg(test)]
-mod tests;

@@ -13,6 +13,3 @@ mod rules;
 pub use cookies::{cookie11, cookie12};
 pub use laws::{disjoint_regions, regions_by_index, unusable_regions, usable_regions};
 pub use platform::{LineTable, Member, Platform, Region};
-
-#[cfg(test)]
-mod tests;

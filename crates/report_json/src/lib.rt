@@ -12,6 +12,3 @@ pub use buffer::{ROOM, ShortText};
 pub use laws::text_laws;
 pub use refusals::refusal_line;
 pub use replies::{initialised_line, line_of, reply_text, short_text};
-
-#[cfg(test)]
-mod tests;

@@ -27,8 +27,3 @@ pub use shown::Shown;
 pub use source::Source;
 pub use std_source::StdSource;
 pub use two_writes::write_two;
-
-#[cfg(test)]
-mod kept_tests;
-#[cfg(test)]
-mod tests;

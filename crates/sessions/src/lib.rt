@@ -8,6 +8,3 @@ mod session;
 
 pub use faults::{OpenFault, RunFault};
 pub use session::Session;
-
-#[cfg(test)]
-mod tests;

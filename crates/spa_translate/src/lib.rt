@@ -15,6 +15,3 @@ pub use faults::CheckFault;
 pub use laws::{intervals_apart, one_to_one, whole_intervals};
 pub use strand::Strand;
 pub use weave::Weave;
-
-#[cfg(test)]
-mod tests;

@@ -14,6 +14,3 @@ pub use laws::{
 };
 pub use plain::{bad_size, initialise, no_slots, spare, uuid_in_use};
 pub use releases::{held_count, held_fixed, is_held, not_held, region_lacks_area, release_refusal};
-
-#[cfg(test)]
-mod tests;

@@ -15,6 +15,3 @@ pub use labels::{LABEL, LabelFields, name};
 pub use nfits::{
     OTHER_GUID, PERSISTENT_MEMORY, control, interleave, mapping, nfit, put_sum, range, two_modules,
 };
-
-#[cfg(test)]
-mod tests;

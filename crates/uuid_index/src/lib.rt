@@ -6,6 +6,3 @@ mod index;
 
 pub use entry::Entry;
 pub use index::{Found, Index};
-
-#[cfg(test)]
-mod tests;

@@ -30,6 +30,3 @@ pub use states::{AreaState, Status};
 pub use translation::{Run, TranslateFault};
 pub use views::{ModuleView, RegionView, View};
 pub use word_fault::WordFault;
-
-#[cfg(test)]
-mod tests;

@@ -1,0 +1,20 @@
+//! Tests of platforms and their regions: translation, free extents, labels by their uuids, the table that labels stand
+//! for and its steps, and what commands look up and change in the labels of all modules.
+#![tactic(auto)]
+
+#[cfg(test)]
+mod changes;
+#[cfg(test)]
+mod extents;
+#[cfg(test)]
+mod lookups;
+#[cfg(test)]
+mod platforms;
+#[cfg(test)]
+mod steps;
+#[cfg(test)]
+mod tables;
+#[cfg(test)]
+mod translations;
+#[cfg(test)]
+mod uuids;

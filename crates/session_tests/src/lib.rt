@@ -1,0 +1,7 @@
+//! Tests of sessions, and of lists of command lines on them.
+#![tactic(auto)]
+
+#[cfg(test)]
+mod lists;
+#[cfg(test)]
+mod stops;
