@@ -1,8 +1,11 @@
 -- What is told of a region, or why nothing is.
 use Rattle.std.proofs.Common.{◌≡◌, ℕ, List, Option, Some, None, refl, sym, ap, subst, ◌∙◌}
-use Rattle.std.specs.Option.{option_map, option_or}
+use Rattle.std.specs.Option.{option_and_then, option_map, option_or}
+use Rattle.std.proofs.lemmas.Option.{none-some}
+use Rattle.view_types.specs.declared.extents.Extent.{Extent}
 use Rattle.view_types.specs.declared.refusal.Refusal.TheVariants.{UnknownRegion, Unusable}
 use Rattle.view_types.specs.declared.rule.Rule.{Rule}
+use Rattle.view_types.specs.declared.states.Status.{Status}
 use Rattle.view_types.specs.declared.views.RegionView.{RegionView}
 use Rattle.module_labels.specs.declared.kind.AreaKind.{AreaKind}
 use Rattle.module_labels.specs.Labels.{Labels}
@@ -16,11 +19,12 @@ use Rattle.label_table.specs.Statuses.{RegionReady, RegionStatus, first_not_read
 use Rattle.region_sets.specs.Statuses.{shown_status}
 use Rattle.label_sets.specs.Sets.{StoredSets, labels_in, platform_in}
 use Rattle.label_sets.specs.Largest.{IsLargestOf, TellsLargest}
-use Rattle.label_sets.specs.Views.{IsRegionView, IsViewOf, ShowsFree}
+use Rattle.label_sets.specs.Lookups.{AreFreeOf, TellsFree, in_region}
+use Rattle.label_sets.specs.Views.{IsRegionView, IsViewOf}
 use Rattle.label_table.specs.Division.{AreFreeExtents}
 use Rattle.view_types.specs.declared.reply.Reply.TheVariants.{Free}
 use Rattle.table_steps.specs.Refusals.{first_of, not_ready_by}
-use Rattle.namespace_core.specs.Lists.{IsFree, IsReadyView, IsStateOf, refusal_by, unread}
+use Rattle.namespace_core.specs.Lists.{IsFree, IsReadyView, IsStateOf, refusal_by, refusal_of, unread}
 
 -- the refusals behind that of an unknown region are those of the status
 clash_refusal : (clash : Option (List ℕ × List ℕ)) → option_or (not_ready_by (status_by_clash clash)) None ≡ refusal_by (shown_status (status_by_clash clash))
@@ -48,6 +52,23 @@ ready-is (statuses.Clash first second) is = absurd cc
 
 pub unknown-is : (platform : Platform) (labels : Labels) (index : ℕ) → region_at platform index ≡ None → first_of (unread platform labels index) ≡ Some (UnknownRegion index)
 unknown-is platform labels index none = rw none refl
+
+-- a region of which a command is not refused
+pub record IsReadyRegion (platform : Platform) (labels : Labels) (index : ℕ) : Type 0 where
+  pub region : Region
+  pub found : region_at platform index ≡ Some region
+  pub ready : status labels region ≡ RegionReady
+
+pub ready-region : (platform : Platform) (labels : Labels) (index : ℕ) → first_of (unread platform labels index) ≡ None → IsReadyRegion platform labels index
+ready-region platform labels index unrefused = by (region_at platform index) refl
+  where
+    by : (found : Option Region) → region_at platform index ≡ found → IsReadyRegion platform labels index
+    by None none = absurd (none-some (UnknownRegion index) (sym unrefused ∙ unknown-is platform labels index none))
+    by (Some region) found = record {
+      region = region;
+      found = found;
+      ready = ready-is (status labels region) (sym (unread-is platform labels index region found) ∙ unrefused);
+    }
 
 module _ (platform : Platform) (sets : StoredSets) (index : ℕ) (state : IsStateOf platform sets) where
   -- the regions of the state are those of the platform
@@ -98,13 +119,37 @@ module _ (platform : Platform) (sets : StoredSets) (index : ℕ) (state : IsStat
         is_view = known.shows;
       }
 
+  -- what is told of the status tells the refusal
+  pub told-unread : (told : Option Status) → told ≡ in_region sets index (λ (r : Region). Some (shown_status (status (labels_in sets) r))) → refusal_of index told ≡ first_of (unread platform (labels_in sets) index)
+  told-unread told is = by (region_at (platform_in sets) index) refl
+    where
+      shown : Region → Option Status
+      shown r = Some (shown_status (status (labels_in sets) r))
+
+      by : (found : Option Region) → region_at (platform_in sets) index ≡ found → refusal_of index told ≡ first_of (unread platform (labels_in sets) index)
+      by None none = ap (refusal_of index) (is ∙ ap (option_and_then shown) none) ∙ sym (unknown-is platform (labels_in sets) index (sym same_region ∙ none))
+      by (Some region) found =
+          ap (refusal_of index) (is ∙ ap (option_and_then shown) found) ∙ sym (unread-is platform (labels_in sets) index region (sym same_region ∙ found))
+
   -- the free extents of a region that is Ready
-  pub free_is : (view : RegionView) → IsReadyView platform (labels_in sets) index view → (size : ℕ) → TellsLargest sets index (Some size) → IsFree platform (labels_in sets) index (Free view.free size)
-  free_is view ready size tells =
-      let region = ready.region in
+  pub free_is : first_of (unread platform (labels_in sets) index) ≡ None → (extents : List Extent) → TellsFree sets index (Some extents) → (size : ℕ) → TellsLargest sets index (Some size)
+      → IsFree platform (labels_in sets) index (Free extents size)
+  free_is unrefused extents tells_free size tells =
       let labels = labels_in sets in
+      let ready = ready-region platform labels index unrefused in
+      let region = ready.region in
       let found : region_at (platform_in sets) index ≡ Some region = same_region ∙ ready.found in
-      let extents : AreFreeExtents platform labels region view.free = subst (λ s. ShowsFree platform labels region s view.free) ready.ready ready.is_view.free_are in
+      let mine : AreFreeExtents (platform_in sets) labels region extents = subst (λ r. AreFreeOf (platform_in sets) labels r (Some extents)) found tells_free in
       let most : IsLargestOf (platform_in sets) labels (Some region) (Some size) = subst (λ r. IsLargestOf (platform_in sets) labels r (Some size)) found tells in
-      let mine : AreFreeExtents (platform_in sets) labels region view.free = rw state.regions extents in
-      rw ready.unrefused (record { region = region; found = ready.found; extents = view.free; extents_are = extents; reply_is = ap (Free view.free) (most view.free mine) })
+      rw unrefused (record { region = region; found = ready.found; extents = extents; extents_are = rw (← state.regions) mine; reply_is = ap (Free extents) (most extents mine) })
+
+  -- the state has the region
+  pub has_free : first_of (unread platform (labels_in sets) index) ≡ None → TellsFree sets index None → ⊥
+  has_free unrefused tells =
+      let ready = ready-region platform (labels_in sets) index unrefused in
+      subst (λ r. AreFreeOf (platform_in sets) (labels_in sets) r None) (same_region ∙ ready.found) tells
+
+  pub has_largest : first_of (unread platform (labels_in sets) index) ≡ None → TellsLargest sets index None → ⊥
+  has_largest unrefused tells =
+      let ready = ready-region platform (labels_in sets) index unrefused in
+      subst (λ r. IsLargestOf (platform_in sets) (labels_in sets) r None) (same_region ∙ ready.found) tells

@@ -186,11 +186,11 @@ fn free_reply(
 {
     let extents = sets.free_extents(alloc, index)?;
     let largest = sets.largest(alloc, index)?;
-    match (extents, largest) {
-        (Some(extents), Some(largest)) => Ok(Reply::Free { extents, largest }),
+    let (Some(extents), Some(largest)) = (extents, largest) else {
         // The state has the region.
-        _ => unreachable!(),
-    }
+        unreachable!()
+    };
+    Ok(Reply::Free { extents, largest })
 }
 
 /// The held labels of a module, and its spare slots.

@@ -1,12 +1,14 @@
 -- The namespaces of a region, counted by slots.
-use Rattle.std.proofs.Common.{◌≡◌, ℕ, zero, suc, ◌+◌, ◌≤◌, ◌<◌, Bool, true, false, cond, List, [], ◌∷◌, ◌++◌, length, get_or, Option, Some, None, map, refl, sym, ap, ◌∙◌, arith}
+use Rattle.std.proofs.Common.{◌≡◌, ℕ, zero, suc, ◌+◌, ◌≤◌, ◌<◌, Bool, true, false, cond, List, [], ◌∷◌, ◌++◌, length, get_or, Option, Some, None, map, refl, sym, ap, subst, ◌∙◌, arith}
 use Rattle.std.specs.Prelude.{count_by, find}
 use Rattle.std.specs.List.Sorted.{IsPermutation}
 use Rattle.std.specs.Option.{option_and_then, option_to_list}
 use Rattle.std.specs.Ordering.{is_lt}
-use Rattle.std.proofs.lemmas.List.{length-map, length-append}
+use Rattle.std.proofs.lemmas.List.{append-nil, length-map, length-append}
 use Rattle.std.proofs.lemmas.List.Sorted.{IsPermutation-cons, IsPermutation-map, IsPermutation-middle, IsPermutation-refl, IsPermutation-sym, IsPermutation-trans, sum_by-IsPermutation, Contains-permutation}
 use Rattle.std.proofs.lemmas.List.Sums.{count_by-le-length, sum_by-append, sum_by-cons}
+use Rattle.std.proofs.lemmas.Map.Entries.{option_filter}
+use Rattle.std.proofs.lemmas.Option.{none-some}
 use Rattle.view_types.specs.declared.namespaces.Namespace.{Namespace}
 use Rattle.label_codec.specs.declared.label.Label.{Label}
 use Rattle.module_labels.specs.Labels.{Labels}
@@ -15,6 +17,7 @@ use Rattle.region_map.specs.declared.platform.Region.{Region}
 use Rattle.label_table.specs.Belonging.{member_at, no_member}
 use Rattle.label_table.specs.Namespaces.{in_order, insert_space, namespaces, space_cmp, spaces_among, spaces_below, spaces_by_slot}
 use Rattle.label_table.specs.Spaces.{Space, space}
+use Rattle.label_table.proofs.ListTests.{some_is}
 use Rattle.region_sets.specs.Marks.{listed_in}
 use Rattle.region_lookups.specs.declared.tallies.Tally.{Tally}
 use Rattle.region_lookups.specs.Spaces.{listed_spaces}
@@ -109,12 +112,19 @@ module _ (L : Labels) (r : Region) where
       (λ t c. Contains-permutation by_slot (listed_spaces L r) t permutes c)
       (λ t c. Contains-permutation (listed_spaces L r) by_slot t (IsPermutation-sym by_slot (listed_spaces L r) permutes) c) is.first)
 
--- One namespace more, of which it is known whether it passes.
-pub tally-found : (p : Namespace → Bool) (ns : List Namespace) (space found : Option Namespace) (tally now : Tally) → found ≡ option_filter p space → IsTally p ns tally
-    → ((n : Namespace) → found ≡ Some n → IsTally p (ns ++ n ∷ []) now) → (found ≡ None → now ≡ tally) → IsTally p (ns ++ option_to_list space) now
-tally-found p ns None found tally now is before some none = subst (IsTally p (ns ++ [])) (sym (none is)) (subst (λ xs. IsTally p xs tally) (sym (append-nil ns)) before)
-tally-found p ns (Some n) found tally now is before some none = by (p n) refl
+-- what a filter leaves passes, and what it takes away does not
+pub filter-some : (p : Namespace → Bool) (space : Option Namespace) (n : Namespace) → Some n ≡ option_filter p space → (space ≡ Some n) × (p n ≡ true)
+filter-some p None n is = absurd cc
+filter-some p (Some s) n is = by (p s) refl
   where
-    by : (b : Bool) → p n ≡ b → IsTally p (ns ++ n ∷ []) now
-    by true e = some n (is ∙ ap (λ b. cond b (Some n) None) e)
-    by false e = subst (IsTally p (ns ++ n ∷ [])) (sym (none (is ∙ ap (λ b. cond b (Some n) None) e))) (tally-fails p ns n tally before e)
+    by : (b : Bool) → p s ≡ b → (Some s ≡ Some n) × (p n ≡ true)
+    by true e = let same : n ≡ s = some_is (is ∙ ap (λ b. cond b (Some s) None) e) in (ap Some (sym same), ap p same ∙ e)
+    by false e = absurd (none-some n (sym (is ∙ ap (λ b. cond b (Some s) None) e)))
+
+pub tally-filtered : (p : Namespace → Bool) (ns : List Namespace) (space : Option Namespace) (tally : Tally) → None ≡ option_filter p space → IsTally p ns tally → IsTally p (ns ++ option_to_list space) tally
+tally-filtered p ns None tally none is = subst (λ xs. IsTally p xs tally) (sym (append-nil ns)) is
+tally-filtered p ns (Some n) tally none is = by (p n) refl
+  where
+    by : (b : Bool) → p n ≡ b → IsTally p (ns ++ n ∷ []) tally
+    by true e = absurd (none-some n (none ∙ ap (λ b. cond b (Some n) None) e))
+    by false e = tally-fails p ns n tally is e

@@ -1,13 +1,12 @@
 -- A namespace has the name of its label of position 0.
-use Rattle.std.proofs.Common.{◌≡◌, ◌≤◌, Bool, true, false, cond, get_or, List, Option, Some, None, refl, sym, ap, subst, ◌∙◌, arith}
-use Rattle.std.specs.Prelude.{◌&&◌, not}
+use Rattle.std.proofs.Common.{◌≡◌, ℕ, ◌<◌, false, cond, get_or, Option, Some, None, refl, sym, ap, subst, ◌∙◌, arith}
+use Rattle.std.specs.Prelude.{◌&&◌, IfSome, not}
 use Rattle.std.specs.List.{Contains}
 use Rattle.std.specs.Str.{bytes_eq}
 use Rattle.std.proofs.lemmas.Map.Entries.{option_filter}
-use Rattle.std.specs.Option.{option_map}
-use Rattle.view_types.specs.declared.namespaces.Namespace.{Namespace}
+use Rattle.std.specs.Option.{option_and_then, option_map}
 use Rattle.label_codec.specs.declared.label.Label.{Label}
-use Rattle.module_labels.specs.Labels.{Labels, has, label_if, of_uuid}
+use Rattle.module_labels.specs.Labels.{Labels, Module, has, label_if, of_uuid}
 use Rattle.module_labels.proofs.Counting.{count-one}
 use Rattle.region_map.specs.declared.platform.Member.{Member}
 use Rattle.region_map.specs.declared.platform.Region.{Region}
@@ -41,16 +40,26 @@ module _ (L : Labels) (r : Region) (l : Label) (leads : Leads L r l) where
       sym (ap (λ (x : Space). x.name) lead.shows) ∙ ap (λ (x : Label). x.name) label_is
 
   not_sought : (sought : Sought) (s : Space) → may_lead sought l ≡ false → space L r l.uuid ≡ Some s → is_sought sought (listed_in L r s) ≡ false
-  not_sought (Named name) s no is = ap (is_name name) (lead-name s is) ∙ no
-  not_sought (NamedBeside name uuid) s no is = ap (λ b. b && not (bytes_eq uuid s.uuid)) (ap (is_name name) (lead-name s is) ∙ no)
-  not_sought Pending s no is = absurd cc
+  not_sought (Named name) s never is = ap (is_name name) (lead-name s is) ∙ never
+  not_sought (NamedBeside name uuid) s never is = ap (λ b. b && not (bytes_eq uuid s.uuid)) (ap (is_name name) (lead-name s is) ∙ never)
+  not_sought Pending s never is = absurd cc
 
   -- what it may not lead is not looked for
   pub none-led : (sought : Sought) → may_lead sought l ≡ false → option_filter (is_sought sought) (namespace_at L r l.uuid) ≡ None
-  none-led sought no = by (space L r l.uuid) refl
+  none-led sought never = by (space L r l.uuid) refl
     where
       by : (o : Option Space) → space L r l.uuid ≡ o → option_filter (is_sought sought) (option_map (listed_in L r) (space L r l.uuid)) ≡ None
       by None is = ap (λ o. option_filter (is_sought sought) (option_map (listed_in L r) o)) is
       by (Some s) is =
           ap (λ o. option_filter (is_sought sought) (option_map (listed_in L r) o)) is
-          ∙ ap (λ b. cond b (Some (listed_in L r s)) None) (not_sought sought s no is)
+          ∙ ap (λ b. cond b (Some (listed_in L r s)) None) (not_sought sought s never is)
+
+-- the label of a slot of position 0's module
+pub leads-at : (L : Labels) (r : Region) (area : Module) → area ≡ L (member_at r 0).handle → (slot : ℕ) → slot < area.slots → (o : Option Label) → o ≡ area.at slot → IfSome o (Leads L r)
+leads-at L r area same slot lt None e = tt
+leads-at L r area same slot lt (Some l) e = subst (λ (a : Module). IsIn a l) same (record { slot = slot; within = lt; is = sym e })
+
+pub none-led-of : (L : Labels) (r : Region) (sought : Sought) (o : Option Label) (l : Label) → o ≡ Some l → IfSome o (Leads L r) → may_lead sought l ≡ false
+    → None ≡ option_filter (is_sought sought) (option_and_then (λ (l : Label). namespace_at L r l.uuid) o)
+none-led-of L r sought o l is leads never =
+    sym (ap (λ o. option_filter (is_sought sought) (option_and_then (λ (l : Label). namespace_at L r l.uuid) o)) is ∙ none-led L r l (subst (λ o. IfSome o (Leads L r)) is leads) sought never)

@@ -1,7 +1,7 @@
 -- Where no namespace of the list is pending, none of the region is.
 use Rattle.std.proofs.Common.{◌≡◌, inl, inr, ℕ, ◌≤◌, Bool, true, false, cond, List, [], ◌∷◌, Option, Some, None, map, refl, sym, ap, ◌∙◌, arith}
 use Rattle.std.specs.Prelude.{◌&&◌, find, nat_lt, not}
-use Rattle.std.specs.List.{Contains, list_any}
+use Rattle.std.specs.List.{Contains}
 use Rattle.std.proofs.lemmas.Bool.{ltb-false}
 use Rattle.label_codec.specs.Flags.{is_updating}
 use Rattle.module_labels.specs.Labels.{Labels, number, of_uuid}

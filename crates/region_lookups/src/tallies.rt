@@ -61,11 +61,13 @@ fn namespace_of(
     label: Option<&Label>,
 ) -> Option<Namespace>
     requires over { IsOver modules.now kept.now }
-    requires leads { IfSome (option_copied label.entry) (Leads (labels_in modules.now) kept.now.region) }
+    requires leads { IfSome (option_copied label) (Leads (labels_in modules.now) kept.now.region) }
     ensures { result ≡ option_filter (is_sought sought.now) (option_and_then
         (λ l. namespace_at (labels_in modules.now) kept.now.region l.uuid) (option_copied label.entry)) }
 {
-    let label = label?;
+    let Some(label) = label else {
+        return None;
+    };
     // A namespace has the name of its label of position 0, so that most uuids need not be looked up.
     if !sought.may_lead(label) {
         return None;

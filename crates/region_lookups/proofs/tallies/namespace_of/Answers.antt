@@ -1,11 +1,9 @@
-use Rattle.std.proofs.Common.{◌≡◌, Option, Some, None, sym, ap, subst, ◌∙◌}
-use Rattle.std.specs.Prelude.{IfSome}
-use Rattle.std.specs.Option.{option_and_then, option_copied}
-use Rattle.std.proofs.lemmas.Map.Entries.{option_filter}
-use Rattle.label_codec.specs.declared.label.Label.{Label}
-use Rattle.region_sets.specs.Marks.{namespace_at}
+use Rattle.std.proofs.Common.{sym, ap, ◌∙◌}
+use Rattle.std.specs.Option.{option_copied}
 use Rattle.region_sets.specs.Modules.{labels_in}
-use Rattle.region_lookups.specs.Spaces.{is_sought}
-use Rattle.region_lookups.specs.Tallies.{Leads}
-use Rattle.region_lookups.proofs.Leading.{none-led}
+use Rattle.region_lookups.proofs.Leading.{none-led-of}
 use Rattle.region_lookups.proofs.tallies.namespace_of.Goals as goal
+
+pub returns-then-not-may_lead : goal.returns-then-not-may_lead
+returns-then-not-may_lead c =
+    none-led-of (labels_in c.args.modules.now) c.args.kept.now.region c.args.sought.now (option_copied c.args.label) c.in-Some.label.now (ap option_copied c.in-Some.is) c.requires.leads (sym c.may_lead.ensures ∙ c.if-not-may_lead.true)

@@ -1,5 +1,6 @@
-use Rattle.std.proofs.Common.{◌≡◌, ◌<◌, ◌++◌, length, map, sym, ap, subst, ◌∙◌, arith}
-use Rattle.std.specs.Option.{option_and_then, option_to_list}
+use Rattle.std.proofs.Common.{◌≡◌, ◌<◌, length, map, sym, ap, subst, ◌∙◌, arith}
+use Rattle.std.specs.Option.{option_and_then, option_copied}
+use Rattle.std.proofs.lemmas.Map.Entries.{option_filter}
 use Rattle.label_codec.specs.declared.label.Label.{Label}
 use Rattle.label_table.specs.Namespaces.{spaces_below, spaces_by_slot}
 use Rattle.region_sets.specs.Marks.{listed_in, namespace_at}
@@ -8,6 +9,7 @@ use Rattle.region_sets.proofs.Slots.{spaces-next}
 use Rattle.region_lookups.specs.Spaces.{is_sought}
 use Rattle.region_lookups.specs.Tallies.{IsTally}
 use Rattle.region_lookups.proofs.Counted.{slots-of-first, tally-count, tally-few, tally-first}
+use Rattle.region_lookups.proofs.Leading.{leads-at}
 use Rattle.region_lookups.proofs.tallies.tally_of.Goals as goal
 
 pub with-tally-requires : goal.with-tally-requires
@@ -15,15 +17,22 @@ with-tally-requires c =
     let few = tally-few (labels_in c.args.modules.now) c.args.kept.now.region (is_sought c.args.sought.now) (module_in c.module_at-leading.result.now).at c.loop-slot.slot c.loop-slot.tally c.loop-slot.invariant in
     omega (arith, few, c.loop-slot-test.true, c.slots-slot-end.type_inv)
 
+pub namespace_of-requires-clause-leads : goal.namespace_of-requires-clause-leads
+namespace_of-requires-clause-leads c =
+    let area = module_in c.module_at-leading.result.now in
+    let within : c.loop-slot.slot < area.slots = omega (arith, c.slots-slot-end.ensures, c.loop-slot-test.true) in
+    leads-at (labels_in c.args.modules.now) c.args.kept.now.region area c.module_at-leading.ensures.stands c.loop-slot.slot within (option_copied c.label.result) c.label.ensures
+
 pub loop-slot-preserved : goal.loop-slot-preserved
 loop-slot-preserved c =
     let L = labels_in c.args.modules.now in
     let r = c.args.kept.now.region in
     let at = (module_in c.module_at-leading.result.now).at in
+    let test = is_sought c.args.sought.now in
+    let space_in = option_and_then (λ (l : Label). namespace_at L r l.uuid) in
     let before = map (listed_in L r) (spaces_below L r at c.loop-slot.slot) in
-    let next = (λ i. before ++ option_to_list ((c.namespace_of.ensures ∙ ap (option_and_then (λ (l : Label). namespace_at L r l.uuid)) c.label.ensures) i))
-    ∙ spaces-next L r at c.loop-slot.slot in
-    subst (λ ns. IsTally (is_sought c.args.sought.now) ns c.with-tally.result) next (c.with-tally.ensures before c.loop-slot.invariant)
+    subst (λ ns. IsTally test ns c.with-tally.result) (spaces-next L r at c.loop-slot.slot)
+    (c.with-tally.ensures test before (space_in (at c.loop-slot.slot)) (c.namespace_of.ensures ∙ ap (λ o. option_filter test (space_in o)) c.label.ensures) c.loop-slot.invariant)
 
 -- at the end of the walk, those of all slots
 abbrev AreAll : goal.After-loop-slot → Type 0
