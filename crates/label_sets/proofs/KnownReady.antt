@@ -2,7 +2,7 @@
 use Rattle.std.proofs.Common.{◌≡◌, ℕ, List, Option, Some, None, map, refl, sym, ap, subst, ◌∙◌}
 use Rattle.std.specs.Option.{option_and_then}
 use Rattle.std.specs.Prelude.{IfSome, slice_index_or}
-use Rattle.view_types.specs.declared.states.Status.TheVariants as shown
+use Rattle.view_types.specs.declared.states.Status.TheVariants as statuses
 use Rattle.region_map.specs.declared.platform.Region.{Region}
 use Rattle.label_table.specs.Belonging.{IsDisjoint}
 use Rattle.label_table.specs.Statuses.{AreaNotReady, Clash, RegionReady, RegionStatus, Unusable, status}
@@ -14,13 +14,15 @@ use Rattle.region_sets.specs.declared.region.RegionLabels.{RegionLabels}
 use Rattle.region_sets.specs.Fates.{platform_of, region_in}
 use Rattle.region_sets.specs.Modules.{labels_in}
 use Rattle.region_sets.specs.Statuses.{shown_status}
+use Rattle.label_sets.specs.declared.sets.Sets.TheInside.{Inside}
 use Rattle.label_sets.specs.Healing.{CanHealIn}
-use Rattle.label_sets.specs.Kept.{IsKnownReady, IsReadyIn}
+use Rattle.label_sets.specs.Kept.{IsKnownReady, IsReadyIn, shown}
 use Rattle.label_sets.specs.Lookups.{in_region}
 use Rattle.label_sets.specs.Sets.{StoredSets}
 use Rattle.label_sets.specs.Sets as sets
 use Rattle.label_sets.specs.Staging.{OfRegion}
 use Rattle.label_sets.specs.Views.{IsPlaceOf}
+use Rattle.label_sets.proofs.FreeRoom.{element}
 
 module _ (ms : List LoadedModule) (rs : List RegionLabels) (disjoint : IsDisjoint (platform_of rs)) (now : List LoadedModule) (regions_now : List RegionLabels) (same_regions : map region_in regions_now ≡ map region_in rs) where
   pub ready-kept : (ready : Option ℕ) → IsKnownReady ms rs ready → table (platform_of rs) (labels_in now) ≡ table (platform_of rs) (labels_in ms) → IsKnownReady now regions_now ready
@@ -35,7 +37,7 @@ ready-healed before index uuid None is heal = tt
 ready-healed before index uuid (Some place) is heal = (is.0, λ d. (heal (slice_index_or before.regions place d) (is.1 d)).ready)
 
 -- a status that is shown as Ready is so
-pub shown-ready : (s : RegionStatus) → shown_status s ≡ shown.Ready → s ≡ RegionReady
+pub shown-ready : (s : RegionStatus) → shown_status s ≡ statuses.Ready → s ≡ RegionReady
 shown-ready RegionReady is = refl
 shown-ready (Unusable rule) is = absurd cc
 shown-ready (AreaNotReady handle kind) is = absurd cc
@@ -43,15 +45,17 @@ shown-ready (Clash first second) is = absurd cc
 
 -- the region with an index is Ready, where its status is told so
 pub ready-told : (now : StoredSets) (index : ℕ) (place : Option ℕ) → IsPlaceOf now.regions index place
-    → Some shown.Ready ≡ in_region now index (λ (r : Region). Some (shown_status (status (sets.labels_in now) r))) → IfSome place (IsReadyIn (sets.labels_in now) now.regions)
+    → Some statuses.Ready ≡ in_region now index (λ (r : Region). Some (shown_status (status (sets.labels_in now) r))) → IfSome place (IsReadyIn (sets.labels_in now) now.regions)
 ready-told now index None is told = tt
 ready-told now index (Some place) is told = (is.0, λ d.
     let r = slice_index_or now.regions place d in
-    let same : Some shown.Ready ≡ Some (shown_status (status (sets.labels_in now) r)) = told ∙ ap (option_and_then (λ (r : Region). Some (shown_status (status (sets.labels_in now) r)))) (is.1 d) in
+    let same : Some statuses.Ready ≡ Some (shown_status (status (sets.labels_in now) r)) = told ∙ ap (option_and_then (λ (r : Region). Some (shown_status (status (sets.labels_in now) r)))) (is.1 d) in
     shown-ready (status (sets.labels_in now) r) (sym (some_is same)))
 
 -- the place that is known to be Ready is that of the region with an index
-pub told-ready : (now : StoredSets) (index place : ℕ) → IsPlaceOf now.regions index (Some place) → IsReadyIn (sets.labels_in now) now.regions place → (d : Region)
-    → Some shown.Ready ≡ in_region now index (λ (r : Region). Some (shown_status (status (sets.labels_in now) r)))
-told-ready now index place is ready d =
-    ap (λ s. Some (shown_status s)) (sym (ready.1 d)) ∙ ap (option_and_then (λ (r : Region). Some (shown_status (status (sets.labels_in now) r)))) (sym (is.1 d))
+pub told-known : (inside : Inside) (now : StoredSets) → shown inside ≡ now → (index place : ℕ) → IsPlaceOf (map region_in inside.regions.items) index (Some place)
+    → IsReadyIn (labels_in inside.modules.items) (map region_in inside.regions.items) place → Some statuses.Ready ≡ in_region now index (λ (r : Region). Some (shown_status (status (sets.labels_in now) r)))
+told-known inside now same index place is ready =
+    let d : Region = (element (map region_in inside.regions.items) place ready.0).0 in
+    subst (λ (s : StoredSets). Some statuses.Ready ≡ in_region s index (λ (r : Region). Some (shown_status (status (sets.labels_in s) r)))) same
+    (ap (λ s. Some (shown_status s)) (sym (ready.1 d)) ∙ ap (option_and_then (λ (r : Region). Some (shown_status (status (labels_in inside.modules.items) r)))) (sym (is.1 d)))

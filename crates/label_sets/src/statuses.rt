@@ -10,6 +10,7 @@ ghost use Rattle.label_sets.specs.Sets.{labels_in};
 
 use crate::sets::Sets;
 use crate::views::place_of;
+use extent_alloc::Extents;
 use region_sets::{LoadedModule, RegionLabels};
 use std::alloc::{AllocError, Global};
 use view_types::{Extent, List, Status};
@@ -24,8 +25,10 @@ impl Sets {
         let Some(place) = place_of(&self.regions, index) else {
             return Ok(None);
         };
-        if self.ready == Some(place) {
-            return Ok(Some(Status::Ready));
+        if let Some(ready) = self.ready {
+            if ready == place {
+                return Ok(Some(Status::Ready));
+            }
         }
         let status = status_of(alloc, &self.modules, &self.regions[place])?;
         Ok(Some(status))
@@ -69,15 +72,20 @@ impl Sets {
             Ok(()) => (),
             Err(fault) => return Err(fault),
         }
-        match self.free.at(place) {
-            Some(free) => match free.iter().collect(alloc) {
-                Ok(extents) => Ok(Some(List::from_vec(extents))),
-                Err(fault) => Err(fault),
-            },
+        let Some(free) = self.free.at(place) else {
             // They are built.
-            None => unreachable!(),
-        }
+            unreachable!()
+        };
+        let extents = listed(alloc, free)?;
+        Ok(Some(extents))
     }
+}
+
+/// The free extents, as a list.
+fn listed(alloc: Global, free: &Extents) -> Result<List<Extent>, AllocError>
+    ensures { IfOk result (λ extents. extents ≡ free.now.extents) }
+{
+    Ok(List::from_vec(free.iter().collect(alloc)?))
 }
 
 /// The status of a region, by the list of its namespaces.

@@ -1,4 +1,4 @@
-use Rattle.std.proofs.Common.{◌≡◌, map, sym, ap, subst, ◌∙◌}
+use Rattle.std.proofs.Common.{◌≡◌, List, map, sym, ap, subst, ◌∙◌}
 use Rattle.std.specs.List.{All}
 use Rattle.std.specs.Option.{option_copied}
 use Rattle.std.specs.Result.{OnOk}
@@ -34,11 +34,11 @@ invariant_of-self g c =
     let did = c.heal_labels.ensures in
     let now = c.heal_labels.new.modules in
     let regions = c.heal_labels.new.regions in
-    let place = c.place_of.result in
+    let place = c.place_of-self-inside.result in
     let sets = c.args.self.now in
     let known : IsKnownReady inside.modules.items inside.regions.items place =
     ready-healed (shown inside) c.args.region c.args.uuid.now place
-    (subst (λ (ys : List RegionLabels). IsPlaceOf (map region_in ys) c.args.region place) c.deref.ensures.value c.place_of.ensures)
+    (subst (λ (ys : List RegionLabels). IsPlaceOf (map region_in ys) c.args.region place) c.deref.ensures.value c.place_of-self-inside.ensures)
     (subst (λ (s : StoredSets). OfRegion s c.args.region (CanHealIn s c.args.uuid.now)) (sym c.self.view_is) c.requires.heal) in
     still-kept inside kept ms rs m n now regions did.together inside.free place inside.room
     (free-after inside kept ms rs m n now regions did.together did.table)

@@ -8,8 +8,8 @@ use Rattle.label_sets.specs.Views.{IsPlaceOf}
 use Rattle.label_sets.proofs.FreeRoom.{element, known-free, tells_free}
 use Rattle.label_sets.proofs.sets.Sets.free_extents.Goals as goal
 
-pub returns-in-Some-clause-free : goal.returns-in-Some-clause-free
-returns-in-Some-clause-free c =
+pub returns-clause-free : goal.returns-clause-free
+returns-clause-free c =
     let inside = c.self.inside in
     let modules = inside.modules.items in
     let regions = inside.regions.items in
@@ -25,4 +25,4 @@ returns-in-Some-clause-free c =
     (c.build.ensures.free (subst (λ (rs : List RegionLabels). IsKnownFree c.deref-2.result.now rs inside.free) (sym c.deref-3.ensures.value)
     (subst (λ (ms : List LoadedModule). IsKnownFree ms regions inside.free) (sym c.deref-2.ensures.value) c.self.invariant.free)))) in
     let is : IsFree modules regions kept.0 free = known-free modules regions c.build.new.self place kept.0 free known lt kept.1 (sym c.in-Some-at.ensures) in
-    tells_free inside c.args.self.now c.self.view_is c.args.index place kept.0 free lt kept.1 is found c.from_vec.result (c.from_vec.ensures ∙ c.in-Ok.ensures)
+    tells_free inside c.args.self.now c.self.view_is c.args.index place kept.0 free lt kept.1 is found c.in_ok-extents.extents c.in_ok-extents.ensures
