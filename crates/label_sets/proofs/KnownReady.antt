@@ -47,10 +47,13 @@ shown-ready (Clash first second) is = absurd cc
 pub ready-told : (now : StoredSets) (index : ℕ) (place : Option ℕ) → IsPlaceOf now.regions index place
     → Some statuses.Ready ≡ in_region now index (λ (r : Region). Some (shown_status (status (sets.labels_in now) r))) → IfSome place (IsReadyIn (sets.labels_in now) now.regions)
 ready-told now index None is told = tt
-ready-told now index (Some place) is told = (is.0, λ d.
-    let r = slice_index_or now.regions place d in
-    let same : Some statuses.Ready ≡ Some (shown_status (status (sets.labels_in now) r)) = told ∙ ap (option_and_then (λ (r : Region). Some (shown_status (status (sets.labels_in now) r)))) (is.1 d) in
-    shown-ready (status (sets.labels_in now) r) (sym (some_is same)))
+ready-told now index (Some place) is told = (
+  is.0,
+  λ d.
+      let r = slice_index_or now.regions place d in
+      let same : Some statuses.Ready ≡ Some (shown_status (status (sets.labels_in now) r)) = told ∙ ap (option_and_then (λ (r : Region). Some (shown_status (status (sets.labels_in now) r)))) (is.1 d) in
+      shown-ready (status (sets.labels_in now) r) (sym (some_is same)),
+)
 
 -- the place that is known to be Ready is that of the region with an index
 pub told-known : (inside : Inside) (now : StoredSets) → shown inside ≡ now → (index place : ℕ) → IsPlaceOf (map region_in inside.regions.items) index (Some place)

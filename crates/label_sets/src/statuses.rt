@@ -36,11 +36,7 @@ impl Sets {
 
     /// The status of a region, as `status` tells it. If it is Ready it is known to be from then on, until another
     /// region is, or a namespace is made, renamed or destroyed.
-    pub fn learn_status(
-        &mut self,
-        alloc: Global,
-        index: u16,
-    ) -> Result<Option<Status>, AllocError>
+    pub fn learn_status(&mut self, alloc: Global, index: u16) -> Result<Option<Status>, AllocError>
         ensures same { self.new ≡ self.old }
         ensures status { IfOk result (λ told. told
             ≡ in_region self.old index (λ r. Some (shown_status (status (labels_in self.old) r)))) }

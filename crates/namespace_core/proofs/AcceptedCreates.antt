@@ -1,18 +1,17 @@
 -- What holds where nothing refuses a create in the state.
-use Rattle.std.proofs.Common.{◌≡◌, ◌⊎◌, inl, inr, ℕ, zero, suc, ◌+◌, ◌-◌, ◌/◌, ◌%◌, ◌<◌, ◌≤◌, Bool, true, false, not, cond, List, [], ◌∷◌, find, length, map, Option, Some, None, refl, sym, ap, subst, ◌∙◌, arith}
+use Rattle.std.proofs.Common.{◌≡◌, ℕ, ◌+◌, ◌-◌, ◌/◌, Bool, true, false, not, cond, List, [], ◌∷◌, find, length, Option, Some, None, refl, sym, ap, subst, ◌∙◌, arith}
 use Rattle.std.proofs.lemmas.List.Sums.{sum_by-cons}
 use Rattle.std.specs.Prelude.{◌==◌, ◌||◌, count_by, if◌then◌else◌, nat_lt, option_map}
-use Rattle.std.specs.List.{Contains, list_any}
+use Rattle.std.specs.List.{list_any}
 use Rattle.std.specs.Option.{option_and_then, unwrap_or}
 use Rattle.view_types.specs.declared.extents.Extent.{Extent}
-use Rattle.view_types.specs.declared.refusal.Refusal.{Refusal}
 use Rattle.view_types.specs.declared.refusal.Refusal.TheVariants.{Unhealed}
 use Rattle.view_types.specs.Intervals.{IsFirstFit, NoneFits, is_free}
 use Rattle.module_labels.specs.Labels.{Labels}
 use Rattle.region_map.specs.declared.platform.Member.{Member}
 use Rattle.region_map.specs.declared.platform.Platform.{Platform}
 use Rattle.region_map.specs.declared.platform.Region.{Region}
-use Rattle.region_map.specs.Platforms.{IsSound, region_at}
+use Rattle.region_map.specs.Platforms.{region_at}
 use Rattle.label_table.specs.Division.{AreFreeExtents, alignment, is_common_free}
 use Rattle.label_table.specs.Fates.{spare}
 use Rattle.label_table.specs.Namespaces.{namespaces}
@@ -20,7 +19,7 @@ use Rattle.label_table.specs.Spaces.{Space, is_pending}
 use Rattle.region_sets.specs.declared.modules.LoadedModule.{LoadedModule}
 use Rattle.region_sets.specs.declared.modules.ModuleArea.{ModuleArea}
 use Rattle.region_sets.specs.declared.modules.ModuleArea.TheVariants.{Missing, WrongSize, Uninit, Foreign, Ready}
-use Rattle.module_labels.specs.Labels.{Module, number}
+use Rattle.module_labels.specs.Labels.{number}
 use Rattle.label_table.specs.Fates.{is_dead}
 use Rattle.region_sets.specs.Fates.{with_regions}
 use Rattle.region_sets.specs.Held.{spare_in}
@@ -34,7 +33,7 @@ use Rattle.label_sets.specs.Views.{spare_if_ready}
 use Rattle.recovery.specs.Recovery.{first_full, pending_count, unhealed_at}
 use Rattle.table_steps.specs.declared.change.Change.TheVariants.{Create}
 use Rattle.table_steps.specs.declared.change.NewNamespace.{NewNamespace}
-use Rattle.table_steps.specs.Create.{AreFreeOf, Creates, create_refusals, made, part_length}
+use Rattle.table_steps.specs.Create.{AreFreeOf, create_refusals, made, part_length}
 use Rattle.namespace_staging.specs.Staged.{new_space}
 use Rattle.table_steps.specs.Refusals.{any_pending, first_below, first_of, unhealed_in}
 use Rattle.table_steps.proofs.Accepted.{IsUnrefused, unrefused}

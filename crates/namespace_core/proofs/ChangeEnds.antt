@@ -1,6 +1,6 @@
 -- The answers of a command that changes the namespace that fits a key.
 use Rattle.std.proofs.Common.{◌≡◌, inl, inr, ℕ, List, [], ◌∷◌, Option, Some, None, refl, sym, ap, subst, ◌∙◌}
-use Rattle.std.specs.Option.{option_copied, option_map_or}
+use Rattle.std.specs.Option.{option_map_or}
 use Rattle.view_types.specs.declared.namespaces.Namespace.{Namespace}
 use Rattle.view_types.specs.declared.refusal.Refusal.{Refusal}
 use Rattle.view_types.specs.declared.reply.Reply.{Reply}
@@ -10,13 +10,10 @@ use Rattle.module_labels.specs.Labels.{Labels}
 use Rattle.region_map.specs.declared.platform.Platform.{Platform}
 use Rattle.region_map.specs.declared.platform.Region.{Region}
 use Rattle.region_map.specs.Platforms.{region_at}
-use Rattle.label_table.specs.Tables.{State, changed_at, state, table, without_space}
-use Rattle.label_table.specs.Spaces as spaces
-use Rattle.region_sets.specs.Fates.{with_regions}
+use Rattle.label_table.specs.Tables.{State, state, table}
 use Rattle.region_sets.specs.Regions.{handles}
 use Rattle.region_sets.specs.Statuses.{space_in}
 use Rattle.label_sets.specs.Sets.{StoredSets, labels_in, platform_in, state_in}
-use Rattle.namespace_marking.specs.Renaming.{with_name}
 use Rattle.table_steps.specs.Changes.{IsDoneBy}
 use Rattle.table_steps.specs.Destroy.{Destroys, IsDestroyed, destroy_refusals, with_destroyed}
 use Rattle.table_steps.specs.Namespaces.{fitting}

@@ -1,5 +1,5 @@
 -- A namespace that can be changed, once its region is recovered; and what the passes behind that make of the state.
-use Rattle.std.proofs.Common.{◌≡◌, ◌≢◌, inl, inr, ℕ, ◌<◌, Bool, true, false, ◌&&◌, List, get_or, Option, Some, None, refl, sym, ap, subst, ◌∙◌, arith}
+use Rattle.std.proofs.Common.{◌≡◌, ◌≢◌, inl, inr, ℕ, ◌<◌, Bool, true, false, ◌&&◌, List, get_or, Option, Some, None, refl, sym, ap, subst, ◌∙◌}
 use Rattle.std.specs.Prelude.{◌==◌, if◌then◌else◌, option_map}
 use Rattle.std.specs.Str.{bytes_eq}
 use Rattle.std.specs.List.{All, Contains}
@@ -13,7 +13,7 @@ use Rattle.region_map.specs.Platforms.{IsSound, region_at}
 use Rattle.label_table.specs.Belonging.{IsDisjoint}
 use Rattle.label_table.specs.Fates.{spare}
 use Rattle.label_table.specs.Spaces as spaces
-use Rattle.label_table.specs.Tables.{State, Table, changed_at, is_member, is_named, state, table, with_changed_space, without_namespace, without_space}
+use Rattle.label_table.specs.Tables.{State, Table, changed_at, is_member, is_named, table, with_changed_space, without_namespace, without_space}
 use Rattle.label_table.specs.Wholes.{any_read_only, is_whole, is_whole_by, labels_with, leading_label}
 use Rattle.label_table.proofs.Equations.{space-of_table}
 use Rattle.label_table.proofs.ListTests.{eq_other, eq_true, list_any-found}
@@ -33,7 +33,6 @@ use Rattle.table_steps.specs.Rename.{renamed, with_renamed}
 use Rattle.table_steps.proofs.Destroyed.{destroyed-is}
 use Rattle.table_steps.proofs.Renamed.{renamed-is}
 use Rattle.namespace_core.specs.Commands.{IsNamedIn, IsTableOrNamed, IsTableOrWithout}
-use Rattle.namespace_core.specs.Create.{IsTableOf}
 use Rattle.namespace_core.specs.Keys.{CanChange}
 use Rattle.namespace_core.proofs.PutSpaces.{shows}
 use Rattle.namespace_core.proofs.RecoveredSpaces.{state-there}

@@ -1,7 +1,6 @@
 -- The answers of a create.
-use Rattle.std.proofs.Common.{◌≡◌, ℕ, List, Option, Some, None, refl, sym, ap, subst, ◌∙◌}
+use Rattle.std.proofs.Common.{◌≡◌, ℕ, Option, Some, None, refl, sym, subst, ◌∙◌}
 use Rattle.std.specs.Prelude.{◌==◌, Result, Ok, Err, IfErr}
-use Rattle.std.specs.List.{Contains}
 use Rattle.view_types.specs.declared.refusal.Refusal.{Refusal}
 use Rattle.view_types.specs.declared.refusal.Refusal.TheVariants.{UnknownRegion}
 use Rattle.view_types.specs.declared.reply.Reply.{Reply}
@@ -15,8 +14,7 @@ use Rattle.label_table.proofs.ListTests.{eq_true, find-some}
 use Rattle.label_sets.specs.Sets.{StoredSets, labels_in}
 use Rattle.table_steps.specs.declared.change.NewNamespace.{NewNamespace}
 use Rattle.table_steps.specs.Changes.{IsDoneBy}
-use Rattle.table_steps.specs.Create.{Creates, IsCreated, create_refusals}
-use Rattle.table_steps.specs.Refusals.{first_of}
+use Rattle.table_steps.specs.Create.{Creates, IsCreated}
 use Rattle.namespace_core.specs.declared.creation.ChangeFault.{ChangeFault}
 use Rattle.namespace_core.specs.declared.creation.ChangeFault.TheVariants as faults
 use Rattle.namespace_core.specs.Create.{IsCreateRefusal, WhereMemory, WhereRefused}

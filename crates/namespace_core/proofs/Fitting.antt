@@ -1,5 +1,5 @@
 -- The namespaces of a region that fit a key, as look-ups tell them.
-use Rattle.std.proofs.Common.{◌≡◌, ◌⊎◌, inl, inr, ℕ, ◌<◌, Bool, true, false, cond, List, [], ◌∷◌, map, find, length, Option, Some, None, refl, sym, ap, subst, ◌∙◌, arith}
+use Rattle.std.proofs.Common.{◌≡◌, inl, inr, ℕ, Bool, true, false, cond, List, [], ◌∷◌, map, find, length, Option, Some, None, refl, sym, ap, subst, ◌∙◌, arith}
 use Rattle.std.specs.Prelude.{filter, if◌then◌else◌, nat_lt, option_map}
 use Rattle.std.specs.List.{Contains}
 use Rattle.std.specs.Option.{option_or}
@@ -8,7 +8,6 @@ use Rattle.std.proofs.lemmas.List.{length-map}
 use Rattle.view_types.specs.declared.namespaces.Namespace.{Namespace}
 use Rattle.view_types.specs.declared.refusal.Refusal.{Refusal}
 use Rattle.view_types.specs.declared.refusal.Refusal.TheVariants.{Ambiguous, NameInUse, ReadOnly, UnknownNamespace}
-use Rattle.cmd_words.specs.declared.name_keys.NameKey.{NameKey}
 use Rattle.cmd_words.specs.declared.name_keys.NameKey.TheVariants.{Uuid, Name}
 use Rattle.module_labels.specs.Labels.{Labels}
 use Rattle.region_map.specs.declared.platform.Region.{Region}
@@ -23,7 +22,7 @@ use Rattle.region_lookups.specs.declared.named.Named.{Named}
 use Rattle.region_lookups.specs.declared.named.Named.TheVariants as named
 use Rattle.region_lookups.specs.Named.{named_among, named_in}
 use Rattle.region_lookups.specs.Spaces.{has_name, has_name_beside, listed_spaces}
-use Rattle.table_steps.specs.Create.{is_named, is_unnamed}
+use Rattle.table_steps.specs.Create.{is_unnamed}
 use Rattle.table_steps.specs.Namespaces.{ambiguous_among, fits, fitting, read_only_among, unknown_among}
 use Rattle.table_steps.specs.Refusals.{first_of, refused_if}
 use Rattle.table_steps.specs.Rename.{is_other_named, name_taken_beside}

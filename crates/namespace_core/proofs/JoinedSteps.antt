@@ -1,5 +1,5 @@
 -- Steps of a command, the one behind the other.
-use Rattle.std.proofs.Common.{◌≡◌, ℕ, true, false, List, map, sym, ap, subst, ◌∙◌}
+use Rattle.std.proofs.Common.{ℕ, true, false, List, map, ap, subst, ◌∙◌}
 use Rattle.std.specs.Prelude.{Result, Ok, Err}
 use Rattle.std.specs.List.{All}
 use Rattle.rig_trait.specs.declared.shown.Shown.{Ghosts}
@@ -10,7 +10,7 @@ use Rattle.rig_trait.proofs.Moments.{weakened}
 use Rattle.module_labels.specs.Labels.{Labels}
 use Rattle.region_sets.specs.Modules.{dimm_of}
 use Rattle.module_flips.specs.declared.flips.AreaFailed.{AreaFailed}
-use Rattle.module_flips.specs.Stops.{FailedAmong, HasAreaCause, LeftIn, WritesAmong}
+use Rattle.module_flips.specs.Stops.{HasAreaCause, LeftIn, WritesAmong}
 use Rattle.module_flips.specs.Stored.{StandsIn}
 use Rattle.module_flips.proofs.Turned.{turned}
 use Rattle.label_sets.specs.Sets.{StoredSets}

@@ -25,7 +25,7 @@ use Rattle.table_steps.proofs.AcceptedChanges.{HaveSpare, own-stands}
 use Rattle.namespace_core.specs.declared.refusals.Unanswered.{Unanswered}
 use Rattle.namespace_core.specs.declared.refusals.Unanswered.TheVariants as unanswereds
 use Rattle.namespace_core.specs.Keys.{CanChange, IsChosen, IsChosenIn, IsOnly, IsRefusedBy, key_refusals, keyed}
-use Rattle.namespace_core.specs.Lists.{IsReadyView, IsStateOf, IsUnread}
+use Rattle.namespace_core.specs.Lists.{IsStateOf, IsUnread}
 use Rattle.namespace_core.proofs.Firsts.{or_more}
 use Rattle.namespace_core.proofs.Fitting.{refused-not}
 

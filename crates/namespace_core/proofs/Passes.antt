@@ -1,5 +1,5 @@
 -- Passes one behind the other, and the commands that they make.
-use Rattle.std.proofs.Common.{◌≡◌, inl, ℕ, true, false, List, map, refl, sym, ap, subst, ◌∙◌}
+use Rattle.std.proofs.Common.{◌≡◌, inl, ℕ, false, List, map, refl, sym, ◌∙◌}
 use Rattle.std.specs.Prelude.{Result, Ok, Err}
 use Rattle.std.specs.List.{All}
 use Rattle.view_types.specs.declared.refusal.Refusal.{Refusal}
@@ -10,7 +10,7 @@ use Rattle.rig_trait.specs.Frames.{FailsAt, IsTold, LeavesOnly}
 use Rattle.module_labels.specs.Labels.{Labels}
 use Rattle.region_map.specs.declared.platform.Platform.{Platform}
 use Rattle.label_table.specs.Tables.{State}
-use Rattle.region_sets.specs.Modules.{dimm_of, size_in}
+use Rattle.region_sets.specs.Modules.{dimm_of}
 use Rattle.module_flips.specs.declared.flips.AreaFailed.{AreaFailed}
 use Rattle.module_flips.specs.Flips.{IsSizedIn}
 use Rattle.module_flips.specs.Stops.{LeftIn}
@@ -20,11 +20,10 @@ use Rattle.module_flips.proofs.Turned.{no_flip}
 use Rattle.namespace_staging.proofs.Flips.{sized-on}
 use Rattle.namespace_staging.proofs.Records.{no_write}
 use Rattle.label_sets.specs.Sets.{StoredSets, labels_in, state_in}
-use Rattle.namespace_core.specs.declared.creation.ChangeFault.{ChangeFault}
 use Rattle.namespace_core.specs.declared.creation.ChangeFault.TheVariants.{Area, Memory}
 use Rattle.namespace_core.specs.Changes.{IsBeforeOrBehind}
 use Rattle.namespace_core.specs.Commands.{IsChange, IsPassOf}
-use Rattle.namespace_core.specs.Create.{IsStepOf, WhereRefused}
+use Rattle.namespace_core.specs.Create.{WhereRefused}
 use Rattle.namespace_core.proofs.JoinedSteps.{cause-behind, joined-steps, left-fits, weaker-step}
 
 module _ {R : Type 0} (m : Ghosts R) (hs : List ℕ) where

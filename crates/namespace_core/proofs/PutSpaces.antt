@@ -1,11 +1,11 @@
 -- A namespace that is staged, and then healed: what holds between the two passes, and at the end.
-use Rattle.std.proofs.Common.{◌≡◌, ◌≢◌, ◌⊎◌, inl, inr, ℕ, ◌+◌, ◌<◌, ◌≤◌, Bool, true, false, not, ◌&&◌, cond, List, length, get_or, map, Option, Some, None, refl, sym, ap, subst, ◌∙◌, arith}
+use Rattle.std.proofs.Common.{◌≡◌, inl, inr, ℕ, ◌+◌, ◌<◌, ◌≤◌, Bool, true, false, not, ◌&&◌, cond, List, length, get_or, map, Option, Some, None, refl, sym, ap, subst, ◌∙◌, arith}
 use Rattle.std.specs.Prelude.{◌==◌, if◌then◌else◌, nat_lt}
 use Rattle.std.specs.List.{All, Contains}
 use Rattle.std.specs.Option.{option_map_or}
 use Rattle.std.specs.Str.{bytes_eq}
 use Rattle.std.proofs.lemmas.Bool.{and_from, and_parts}
-use Rattle.std.proofs.lemmas.List.{get_or-map, length-map}
+use Rattle.std.proofs.lemmas.List.{get_or-map}
 use Rattle.view_types.specs.declared.namespaces.Namespace.{Namespace}
 use Rattle.label_codec.specs.declared.label.Label.{Label}
 use Rattle.module_labels.specs.Labels.{Labels}
@@ -13,10 +13,10 @@ use Rattle.region_map.specs.declared.platform.Platform.{Platform}
 use Rattle.region_map.specs.declared.platform.Region.{Region}
 use Rattle.region_map.specs.Platforms.{region_at}
 use Rattle.label_table.specs.Belonging.{IsDisjoint}
-use Rattle.label_table.specs.Division.{IsOpen, is_common_free, is_held_at, namespaces_over, part_size}
+use Rattle.label_table.specs.Division.{is_held_at, namespaces_over, part_size}
 use Rattle.label_table.specs.Spaces.{Space, space, space_if}
 use Rattle.label_table.specs.Statuses.{RegionReady, status}
-use Rattle.label_table.specs.Tables.{ChangesAt, State, changed_at, is_member, is_named, slot_of, state, table, with_namespace}
+use Rattle.label_table.specs.Tables.{State, changed_at, is_member, is_named, slot_of, state, table, with_namespace}
 use Rattle.label_table.specs.Wholes.{any_read_only, is_whole, is_whole_by, labels_with, leading_label}
 use Rattle.label_table.proofs.Equations.{changed_at-twice}
 use Rattle.label_table.proofs.ListTests.{eq_same, eq_true, uuid_same}
@@ -30,7 +30,7 @@ use Rattle.label_sets.specs.Sets.{StoredSets, labels_in, platform_in, state_in}
 use Rattle.label_sets.specs.Staging.{CanStageIn, GivesSlots, IsOpenRange}
 use Rattle.label_sets.proofs.Written.{same-count}
 use Rattle.namespace_staging.specs.Staged.{IsBeforeOrWith, new_space}
-use Rattle.namespace_core.specs.Create.{CanPutIn, IsPutIn, IsTableOf, IsTableOrWith}
+use Rattle.namespace_core.specs.Create.{CanPutIn, IsPutIn, IsTableOrWith}
 
 some-is : {x y : Space} → Some x ≡ Some y → x ≡ y
 some-is e = cc

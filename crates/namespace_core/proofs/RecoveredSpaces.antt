@@ -1,5 +1,5 @@
 -- A namespace that nothing refuses can be put into its region once this is recovered; and what the reply to it says.
-use Rattle.std.proofs.Common.{◌≡◌, ◌≢◌, ◌⊎◌, inl, inr, ℕ, ◌+◌, ◌/◌, ◌<◌, ◌≤◌, Bool, true, false, ◌&&◌, find, List, length, get_or, map, Option, Some, None, refl, sym, ap, subst, ◌∙◌, arith}
+use Rattle.std.proofs.Common.{◌≡◌, ◌≢◌, ◌⊎◌, inl, inr, ℕ, ◌+◌, ◌<◌, ◌≤◌, Bool, true, false, ◌&&◌, find, List, length, get_or, Option, Some, None, refl, sym, ap, subst, ◌∙◌, arith}
 use Rattle.std.specs.Prelude.{◌==◌, if◌then◌else◌, option_map}
 use Rattle.std.specs.Str.{bytes_eq}
 use Rattle.std.specs.List.{All, Contains}
@@ -7,7 +7,7 @@ use Rattle.view_types.specs.declared.namespaces.Namespace.{Namespace}
 use Rattle.view_types.specs.declared.refusal.Refusal.TheVariants.{UuidInUse}
 use Rattle.view_types.specs.declared.reply.Reply.{Reply}
 use Rattle.label_codec.specs.declared.label.Label.{Label}
-use Rattle.module_labels.specs.Labels.{IsBounded, Labels, Module, has}
+use Rattle.module_labels.specs.Labels.{IsBounded, Labels, has}
 use Rattle.region_map.specs.declared.platform.Member.{Member}
 use Rattle.region_map.specs.declared.platform.Platform.{Platform}
 use Rattle.region_map.specs.declared.platform.Region.{Region}
@@ -17,7 +17,6 @@ use Rattle.label_table.specs.Division.{is_common_free}
 use Rattle.label_table.specs.Fates.{is_dead, spare}
 use Rattle.label_table.specs.Flips.{HasNone}
 use Rattle.label_table.specs.Spaces.{Space}
-use Rattle.label_table.specs.Statuses.{RegionReady, status}
 use Rattle.label_table.specs.Tables.{State, Table, changed_at, is_member, is_named, state, table, with_namespace}
 use Rattle.label_table.proofs.ListTests.{Contains-get_or, both, eq_other, eq_same, eq_true, find-some, list_any-at, list_any-found}
 use Rattle.label_table.proofs.StatusLaws.{common_free-kept, status-kept}
@@ -34,8 +33,7 @@ use Rattle.label_sets.proofs.Platforms.{known-members}
 use Rattle.label_sets.proofs.Stageable.{region-listed}
 use Rattle.recovery.specs.Recovery.{IsRecovered}
 use Rattle.table_steps.specs.declared.change.NewNamespace.{NewNamespace}
-use Rattle.table_steps.specs.Changes.{least_spare}
-use Rattle.table_steps.specs.Create.{Creates, IsCreated, created, keeps_uuid, made, part_length, uuid_in_use, with_made}
+use Rattle.table_steps.specs.Create.{Creates, IsCreated, created, keeps_uuid, part_length, uuid_in_use, with_made}
 use Rattle.table_steps.proofs.Fresh.{fresh}
 use Rattle.table_steps.proofs.Made.{made-is}
 use Rattle.table_steps.proofs.Uuids.{keeps-same}

@@ -1,5 +1,5 @@
 -- What look-ups by the index of a region tell of why a create is refused.
-use Rattle.std.proofs.Common.{◌≡◌, ℕ, Bool, List, [], ◌∷◌, true, false, find, Option, Some, None, map, refl, sym, ap, subst, ◌∙◌}
+use Rattle.std.proofs.Common.{◌≡◌, ℕ, Bool, List, true, false, find, Option, Some, None, refl, sym, ap, subst, ◌∙◌}
 use Rattle.std.specs.Prelude.{if◌then◌else◌, is_some, option_map}
 use Rattle.std.specs.Option.{option_and_then, option_or}
 use Rattle.view_types.specs.declared.extents.Extent.{Extent}
@@ -19,20 +19,17 @@ use Rattle.label_sets.specs.Lookups.{LacksSpare, LacksSpareIn, in_region, uuid_o
 use Rattle.label_sets.specs.Sets.{StoredSets, labels_in, platform_in}
 use Rattle.label_sets.proofs.Platforms.{each-once}
 use Rattle.label_table.proofs.StatusLaws.{ready-parts}
-use Rattle.region_lookups.specs.Holders.{IsHolder, IsLeastHolder}
+use Rattle.region_lookups.specs.Holders.{IsHolder}
 use Rattle.region_sets.specs.Fates.{with_regions}
-use Rattle.region_sets.specs.Modules.{dimm_of}
 use Rattle.std.specs.List.Sorted.{IsStrictlyIncreasing}
-use Rattle.view_types.specs.declared.rule.Rule.{Rule}
 use Rattle.view_types.specs.declared.refusal.Refusal.TheVariants.{UnknownRegion, Unusable}
 use Rattle.region_sets.specs.Statuses.{shown_status}
 use Rattle.namespace_core.specs.Lists.{refusal_by}
 use Rattle.namespace_core.proofs.Firsts.{or_more}
-use Rattle.namespace_core.proofs.Unread.{ready-is, unknown-is, unread-is}
-use Rattle.table_steps.specs.Refusals.{region_not_ready, unhealed, unknown_region, unusable}
-use Rattle.view_types.specs.declared.states.Status.{Status}
+use Rattle.namespace_core.proofs.Unread.{unread-is}
+use Rattle.table_steps.specs.Refusals.{region_not_ready, unknown_region, unusable}
 use Rattle.table_steps.specs.declared.change.NewNamespace.{NewNamespace}
-use Rattle.table_steps.specs.Create.{AreFreeOf, AreFreeWhere, bad_size_in, create_refusals, is_named, is_unnamed, known_region_refusals, name_in_use_in, no_space_in, uuid_in_use}
+use Rattle.table_steps.specs.Create.{AreFreeOf, AreFreeWhere, bad_size_in, is_named, is_unnamed, name_in_use_in, no_space_in, uuid_in_use}
 use Rattle.table_steps.specs.Refusals.{any_pending, first_below, first_of, no_slots_in, not_ready_by, unhealed_in}
 use Rattle.table_steps.proofs.KnownRegions.{known-region}
 use Rattle.label_table.specs.Namespaces.{namespaces}

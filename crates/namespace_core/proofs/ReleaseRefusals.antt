@@ -7,7 +7,6 @@ use Rattle.std.proofs.lemmas.Bool.{and_parts}
 use Rattle.view_types.specs.declared.namespaces.Held.{Held}
 use Rattle.view_types.specs.declared.refusal.Refusal.{Refusal}
 use Rattle.view_types.specs.declared.refusal.Refusal.TheVariants.{NotHeld, ReadOnly, UnknownRegion, Unusable}
-use Rattle.view_types.specs.declared.reply.Reply.{Reply}
 use Rattle.view_types.specs.declared.reply.Reply.TheVariants.{HeldList, Refused}
 use Rattle.view_types.specs.declared.rule.Rule.{Rule}
 use Rattle.module_labels.specs.Labels.{Labels, has, is_ready}

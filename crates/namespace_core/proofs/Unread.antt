@@ -131,6 +131,9 @@ module _ (platform : Platform) (sets : StoredSets) (index : ℕ) (state : IsStat
       by (Some region) found =
           ap (refusal_of index) (is ∙ ap (option_and_then shown) found) ∙ sym (unread-is platform (labels_in sets) index region (sym same_region ∙ found))
 
+  free-there : (region : Region) (extents : List Extent) → AreFreeExtents (platform_in sets) (labels_in sets) region extents → AreFreeExtents platform (labels_in sets) region extents
+  free-there region extents are = rw (← state.regions) are
+
   -- the free extents of a region that is Ready
   pub free_is : first_of (unread platform (labels_in sets) index) ≡ None → (extents : List Extent) → TellsFree sets index (Some extents) → (size : ℕ) → TellsLargest sets index (Some size)
       → IsFree platform (labels_in sets) index (Free extents size)
@@ -141,7 +144,7 @@ module _ (platform : Platform) (sets : StoredSets) (index : ℕ) (state : IsStat
       let found : region_at (platform_in sets) index ≡ Some region = same_region ∙ ready.found in
       let mine : AreFreeExtents (platform_in sets) labels region extents = subst (λ r. AreFreeOf (platform_in sets) labels r (Some extents)) found tells_free in
       let most : IsLargestOf (platform_in sets) labels (Some region) (Some size) = subst (λ r. IsLargestOf (platform_in sets) labels r (Some size)) found tells in
-      rw unrefused (record { region = region; found = ready.found; extents = extents; extents_are = rw (← state.regions) mine; reply_is = ap (Free extents) (most extents mine) })
+      rw unrefused (record { region = region; found = ready.found; extents = extents; extents_are = free-there region extents mine; reply_is = ap (Free extents) (most extents mine) })
 
   -- the state has the region
   pub has_free : first_of (unread platform (labels_in sets) index) ≡ None → TellsFree sets index None → ⊥

@@ -20,7 +20,7 @@ use Rattle.label_table.specs.Division.{alignment, is_common_free}
 use Rattle.label_table.specs.Flips.{HasNone}
 use Rattle.label_table.specs.Spaces.{Space}
 use Rattle.label_table.specs.Statuses.{RegionReady, status}
-use Rattle.label_table.specs.Tables.{State, changed_at, is_member, table, with_namespace}
+use Rattle.label_table.specs.Tables.{changed_at, is_member, table, with_namespace}
 use Rattle.region_lookups.specs.declared.named.Named.{Named}
 use Rattle.region_lookups.specs.declared.named.Named.TheVariants as named
 use Rattle.region_sets.specs.declared.modules.LoadedModule.{LoadedModule}
@@ -33,7 +33,7 @@ use Rattle.namespace_staging.specs.Staged.{new_space}
 use Rattle.label_sets.specs.Sets.{StoredSets, labels_in, platform_in, state_in}
 use Rattle.label_sets.specs.Staging.{IsOpenRange}
 use Rattle.table_steps.specs.declared.change.NewNamespace.{NewNamespace}
-use Rattle.table_steps.specs.Create.{AreFreeOf, Creates, IsCreated, create_refusals, made, part_length}
+use Rattle.table_steps.specs.Create.{AreFreeOf, Creates, create_refusals, made, part_length}
 use Rattle.table_steps.specs.Refusals.{first_of}
 use Rattle.namespace_core.specs.declared.creation.ChangeFault.{ChangeFault}
 use Rattle.namespace_core.specs.declared.creation.ChangeFault.TheVariants as faults

@@ -227,7 +227,8 @@ pub(crate) fn region_refusal(
     requires state { IsStateOf platform.now sets.now }
     ensures { IfOk result (λ refusal. refusal ≡ first_of (unread platform.now (labels_in sets.now) index)) }
 {
-    Ok(refusal_of(sets.status(alloc, index)?, index))
+    let status = sets.status(alloc, index)?;
+    Ok(refusal_of(status, index))
 }
 
 /// The same. A region that is Ready is known to be so from then on.

@@ -1,12 +1,7 @@
-use Rattle.std.proofs.Common.{◌≡◌, None, Some, sym, ap, subst, ◌∙◌}
-use Rattle.std.specs.Option.{option_copied}
-use Rattle.label_table.specs.Statuses.{RegionReady, status}
-use Rattle.label_sets.specs.Sets.{StoredSets, labels_in}
+use Rattle.std.proofs.Common.{sym, ◌∙◌}
+use Rattle.label_sets.specs.Sets.{labels_in}
 use Rattle.table_steps.specs.Refusals.{region_not_ready, unknown_region, unusable}
-use Rattle.namespace_core.specs.Create.{IsCreateRefusal}
-use Rattle.namespace_core.specs.Lists.{IsStateOf}
 use Rattle.namespace_core.proofs.Firsts.{or_more}
-use Rattle.namespace_core.proofs.Unread.{ready-region}
 use Rattle.namespace_core.proofs.create_refusals.create_refusal.Goals as goal
 
 -- The first refusals are those of every command that asks for a Ready region.

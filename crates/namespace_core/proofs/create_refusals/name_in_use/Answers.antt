@@ -1,10 +1,10 @@
-use Rattle.std.proofs.Common.{◌≡◌, List, Option, Some, None, sym, ap, ◌∙◌}
+use Rattle.std.proofs.Common.{Option, sym, ap, ◌∙◌}
 use Rattle.std.specs.Prelude.{option_map}
 use Rattle.std.specs.Option.{option_and_then}
 use Rattle.view_types.specs.declared.refusal.Refusal.TheVariants.{NameInUse}
 use Rattle.region_lookups.specs.declared.named.Named.{Named}
 use Rattle.namespace_core.specs.Create.{first_named}
-use Rattle.namespace_core.proofs.Refused.{name-is, unnamed-is}
+use Rattle.namespace_core.proofs.Refused.{name-is}
 use Rattle.namespace_core.proofs.create_refusals.name_in_use.Goals as goal
 
 pub returns-in-Some-first_named : goal.returns-in-Some-first_named

@@ -1,4 +1,4 @@
-use Rattle.std.proofs.Common.{◌≡◌, sym, ap, ◌∙◌}
+use Rattle.std.proofs.Common.{sym, ap, ◌∙◌}
 use Rattle.std.specs.Prelude.{option_map}
 use Rattle.view_types.specs.declared.refusal.Refusal.TheVariants.{NoSlots}
 use Rattle.region_lookups.specs.declared.positions.ModuleSpare.{ModuleSpare}

@@ -1,4 +1,4 @@
-use Rattle.std.proofs.Common.{◌≡◌, Option, None, sym, ◌∙◌}
+use Rattle.std.proofs.Common.{None, sym, ◌∙◌}
 use Rattle.std.specs.Prelude.{if◌then◌else◌, is_some, option_map}
 use Rattle.view_types.specs.declared.refusal.Refusal.TheVariants.{Unhealed}
 use Rattle.region_lookups.specs.declared.positions.ModuleSpare.{ModuleSpare}

@@ -1,4 +1,4 @@
-use Rattle.std.proofs.Common.{◌≡◌, sym, ap, ◌∙◌}
+use Rattle.std.proofs.Common.{sym, ap, ◌∙◌}
 use Rattle.std.specs.Prelude.{option_map}
 use Rattle.view_types.specs.declared.refusal.Refusal.TheVariants.{UuidInUse}
 use Rattle.namespace_core.proofs.Refused.{uuid-is}

@@ -1,4 +1,4 @@
-use Rattle.std.proofs.Common.{◌≡◌, ℕ, List, min, take}
+use Rattle.std.proofs.Common.{◌≡◌, ℕ, min, take}
 use Rattle.std.specs.List.{fold}
 use Rattle.region_map.specs.declared.platform.Member.{Member}
 use Rattle.label_sets.specs.Sets.{state_in}

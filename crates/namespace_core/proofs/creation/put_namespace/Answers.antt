@@ -1,5 +1,4 @@
 use Rattle.std.proofs.Common.{◌≡◌, List, map, Some, sym, ap, ◌∙◌}
-use Rattle.std.specs.Result.{OnErr, OnOk}
 use Rattle.region_map.specs.declared.platform.Region.{Region}
 use Rattle.region_map.specs.Platforms.{region_at}
 use Rattle.region_sets.specs.Fates.{with_regions}
@@ -9,7 +8,7 @@ use Rattle.namespace_healing.proofs.Flipping.{on_ok}
 use Rattle.namespace_staging.proofs.Flips.{sized-on}
 use Rattle.namespace_staging.specs.Staged.{IsBeforeOrWith, new_space}
 use Rattle.label_sets.specs.Healing.{CanHealIn}
-use Rattle.label_sets.specs.Sets.{StoredSets, labels_in, platform_in, state_in}
+use Rattle.label_sets.specs.Sets.{labels_in, platform_in}
 use Rattle.label_sets.specs.Staging.{CanStageIn}
 use Rattle.label_sets.proofs.Platforms.{regions-disjoint}
 use Rattle.label_sets.proofs.Stageable.{region-listed}

@@ -1,4 +1,4 @@
-use Rattle.std.proofs.Common.{◌≡◌, Option, ap, ◌∙◌, ℕ}
+use Rattle.std.proofs.Common.{Option, ap, ◌∙◌, ℕ}
 use Rattle.std.specs.Option.{unwrap_or}
 use Rattle.label_sets.specs.Sets.{platform_in}
 use Rattle.namespace_core.proofs.AcceptedCreates.{spare-told}

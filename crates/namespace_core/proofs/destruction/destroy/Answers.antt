@@ -1,11 +1,9 @@
-use Rattle.std.proofs.Common.{◌≡◌, ℕ, List, Option, Some, None, Ok, Err, refl, sym, ap, subst, ◌∙◌}
+use Rattle.std.proofs.Common.{◌≡◌, ℕ, List, Some, Ok, Err, sym, ap, subst, ◌∙◌}
 use Rattle.std.specs.Option.{option_copied}
 use Rattle.view_types.specs.declared.reply.Reply.TheVariants.{Destroyed}
 use Rattle.region_map.specs.Platforms.{region_at}
-use Rattle.region_sets.specs.Regions.{handles}
 use Rattle.label_table.specs.Tables.{state}
 use Rattle.label_sets.specs.Sets.{labels_in, state_in}
-use Rattle.module_flips.specs.declared.flips.AreaFailed.{AreaFailed}
 use Rattle.table_steps.specs.Destroy.{Destroys, IsDestroyed, destroy_refusals}
 use Rattle.table_steps.specs.Refusals.{first_of}
 use Rattle.table_steps.proofs.AcceptedChanges.{unrefused-destroy}

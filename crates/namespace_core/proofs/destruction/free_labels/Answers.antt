@@ -1,20 +1,18 @@
-use Rattle.std.proofs.Common.{◌≡◌, inl, List, map, Some, Ok, Err, sym, ap, ◌∙◌}
+use Rattle.std.proofs.Common.{◌≡◌, inl, List, Some, Ok, Err, sym, ap, ◌∙◌}
 use Rattle.region_map.specs.declared.platform.Region.{Region}
 use Rattle.region_map.specs.Platforms.{region_at}
 use Rattle.region_sets.specs.Fates.{with_regions}
-use Rattle.region_sets.specs.Modules.{dimm_of}
 use Rattle.region_sets.specs.Regions.{handles}
 use Rattle.namespace_dropping.specs.Dropping.{IsBeforeOrWithout}
 use Rattle.namespace_healing.proofs.Flipping.{on_ok}
 use Rattle.namespace_staging.proofs.Flips.{sized-on}
 use Rattle.label_sets.specs.Dropping.{CanDropIn}
 use Rattle.label_sets.specs.Healing.{CanHealIn}
-use Rattle.label_sets.specs.Sets.{StoredSets, labels_in, platform_in, state_in}
+use Rattle.label_sets.specs.Sets.{labels_in, platform_in}
 use Rattle.namespace_core.specs.Commands.{IsTableOrWithout}
 use Rattle.namespace_core.specs.Create.{IsTableOf}
 use Rattle.namespace_core.proofs.AcceptedCreates.{of-found}
 use Rattle.namespace_core.proofs.ChangePasses.{dropped-fits, dropped-state}
-use Rattle.namespace_core.proofs.JoinedSteps.{left-fits}
 use Rattle.namespace_core.proofs.Passes.{joined-passes, weaker-pass}
 use Rattle.namespace_core.proofs.destruction.free_labels.Goals as goal
 

@@ -1,6 +1,5 @@
-use Rattle.std.proofs.Common.{◌≡◌, inl, Ok, Err, sym, ◌∙◌}
+use Rattle.std.proofs.Common.{inl, Ok, Err, sym, ◌∙◌}
 use Rattle.region_sets.specs.Regions.{handles}
-use Rattle.label_sets.specs.Sets.{labels_in}
 use Rattle.namespace_healing.proofs.Flipping.{on_ok}
 use Rattle.namespace_core.specs.Commands.{IsTableOrWithout}
 use Rattle.namespace_core.specs.Create.{IsTableOf}

@@ -1,4 +1,4 @@
-use Rattle.std.proofs.Common.{◌≡◌, [], ◌∷◌, ◌∙◌}
+use Rattle.std.proofs.Common.{[], ◌∷◌, ◌∙◌}
 use Rattle.label_sets.specs.Sets.{labels_in}
 use Rattle.table_steps.specs.Refusals.{no_slots}
 use Rattle.namespace_core.proofs.KeyedRefusals.{destroy-first}

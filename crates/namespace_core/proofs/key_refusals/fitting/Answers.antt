@@ -1,10 +1,8 @@
-use Rattle.std.proofs.Common.{◌≡◌, List, Option, Some, None, map, sym, ap, subst, ◌∙◌}
+use Rattle.std.proofs.Common.{◌≡◌, Option, Some, map, sym, ap, ◌∙◌}
 use Rattle.std.specs.Option.{option_and_then}
-use Rattle.view_types.specs.declared.namespaces.Namespace.{Namespace}
 use Rattle.cmd_words.specs.declared.name_keys.NameKey.{NameKey}
 use Rattle.region_map.specs.declared.platform.Region.{Region}
 use Rattle.label_table.proofs.ListTests.{some_is}
-use Rattle.region_lookups.specs.declared.named.Named.{Named}
 use Rattle.region_lookups.specs.Named.{named_among, named_in}
 use Rattle.region_sets.specs.Marks.{listed_in, namespace_at}
 use Rattle.label_sets.specs.Sets.{labels_in}

@@ -1,14 +1,11 @@
-use Rattle.std.proofs.Common.{◌≡◌, List, [], ◌∷◌, Option, Some, None, false, find, sym, ap, ◌∙◌}
+use Rattle.std.proofs.Common.{◌≡◌, Option, find, sym, ap, ◌∙◌}
 use Rattle.std.specs.Prelude.{option_map}
 use Rattle.std.specs.Option.{option_and_then}
 use Rattle.view_types.specs.declared.namespaces.Namespace.{Namespace}
 use Rattle.view_types.specs.declared.refusal.Refusal.TheVariants.{NameInUse}
 use Rattle.region_map.specs.declared.platform.Region.{Region}
 use Rattle.region_lookups.specs.Spaces.{has_name_beside, listed_spaces}
-use Rattle.region_sets.specs.Statuses.{space_in}
 use Rattle.label_sets.specs.Sets.{labels_in}
-use Rattle.table_steps.specs.Create.{is_unnamed}
-use Rattle.table_steps.specs.Rename.{name_taken_beside}
 use Rattle.namespace_core.proofs.Fitting.{taken-is}
 use Rattle.namespace_core.proofs.key_refusals.name_taken.Goals as goal
 

@@ -1,4 +1,4 @@
-use Rattle.std.proofs.Common.{◌≡◌, [], ◌∷◌, sym, ◌∙◌}
+use Rattle.std.proofs.Common.{[], ◌∷◌, sym, ◌∙◌}
 use Rattle.label_sets.specs.Sets.{labels_in}
 use Rattle.table_steps.specs.Refusals.{by_region, no_slots}
 use Rattle.table_steps.specs.Rename.{name_taken_in}

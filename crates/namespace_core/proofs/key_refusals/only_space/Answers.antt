@@ -1,7 +1,7 @@
-use Rattle.std.proofs.Common.{◌≡◌, sym, ◌∙◌}
+use Rattle.std.proofs.Common.{sym, ◌∙◌}
 use Rattle.label_sets.specs.Sets.{labels_in}
 use Rattle.table_steps.specs.Namespaces.{fitting}
-use Rattle.namespace_core.proofs.Fitting.{refused-none, refused-read_only, refused-several, told-one}
+use Rattle.namespace_core.proofs.Fitting.{told-one}
 use Rattle.namespace_core.proofs.key_refusals.only_space.Goals as goal
 
 pub returns-else-space-clause-only : goal.returns-else-space-clause-only

@@ -4,4 +4,4 @@ use Rattle.namespace_core.proofs.lists.region_refusal.Goals as goal
 
 pub returns : goal.returns
 returns c =
-    c.refusal_of.ensures ∙ told-unread c.args.platform.now c.args.sets.now c.args.index c.requires c.in_ok.field-0 c.in_ok.ensures
+    c.refusal_of.ensures ∙ told-unread c.args.platform.now c.args.sets.now c.args.index c.requires.state c.in_ok-status.status c.in_ok-status.ensures

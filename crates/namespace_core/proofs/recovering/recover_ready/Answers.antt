@@ -1,12 +1,11 @@
-use Rattle.std.proofs.Common.{◌≡◌, List, Option, Some, None, Err, ℕ, sym, ap, subst, ◌∙◌}
+use Rattle.std.proofs.Common.{◌≡◌, List, Some, None, Err, ℕ, sym, ap, ◌∙◌}
 use Rattle.region_map.specs.declared.platform.Region.{Region}
 use Rattle.region_map.specs.Platforms.{region_at}
 use Rattle.region_sets.specs.Fates.{with_regions}
 use Rattle.label_table.specs.Statuses.{RegionReady, status}
 use Rattle.label_sets.specs.Sets.{labels_in, platform_in}
 use Rattle.recovery.specs.declared.region.RecoverFault.{RecoverFault}
-use Rattle.region_sets.specs.Regions.{handles}
-use Rattle.recovery.specs.Recovery.{HasCause, HasCauseOf, unhealed_at, unhealed_by}
+use Rattle.recovery.specs.Recovery.{unhealed_at, unhealed_by}
 use Rattle.namespace_core.proofs.AcceptedCreates.{of-found, unhealed-none}
 use Rattle.namespace_core.proofs.recovering.recover_ready.Goals as goal
 

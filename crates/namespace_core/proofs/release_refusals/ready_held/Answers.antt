@@ -1,4 +1,4 @@
-use Rattle.std.proofs.Common.{◌≡◌, Some, None, subst}
+use Rattle.std.proofs.Common.{Some, None, subst}
 use Rattle.view_types.specs.declared.refusal.Refusal.TheVariants.{NotReady, UnknownDimm}
 use Rattle.view_types.specs.declared.states.Status.TheVariants.{Area}
 use Rattle.label_sets.specs.Sets.{labels_in}

@@ -1,6 +1,5 @@
-use Rattle.std.proofs.Common.{◌≡◌, true, false, List, [], ◌∷◌, Some, sym, ap, subst, ◌∙◌}
+use Rattle.std.proofs.Common.{[], ◌∷◌, Some, sym, ap, subst, ◌∙◌}
 use Rattle.std.specs.List.{list_any}
-use Rattle.view_types.specs.declared.namespaces.Held.{Held}
 use Rattle.label_sets.specs.Sets.{labels_in}
 use Rattle.table_steps.specs.Refusals.{first_of}
 use Rattle.table_steps.specs.Release.{held_fixed, not_held, region_lacks_area, release_refusals}

@@ -1,4 +1,4 @@
-use Rattle.std.proofs.Common.{◌≡◌, List, map, Some, Ok, Err, sym, ap, ◌∙◌}
+use Rattle.std.proofs.Common.{◌≡◌, List, Some, Ok, Err, sym, ap, ◌∙◌}
 use Rattle.region_map.specs.declared.platform.Region.{Region}
 use Rattle.region_map.specs.Platforms.{region_at}
 use Rattle.label_table.specs.Tables.{table}
@@ -9,7 +9,7 @@ use Rattle.namespace_healing.proofs.Flipping.{on_ok}
 use Rattle.namespace_marking.specs.Renaming.{IsBeforeOrRenamed}
 use Rattle.namespace_staging.proofs.Flips.{sized-on}
 use Rattle.label_sets.specs.Healing.{CanHealIn}
-use Rattle.label_sets.specs.Sets.{StoredSets, labels_in, platform_in, state_in}
+use Rattle.label_sets.specs.Sets.{labels_in, platform_in, state_in}
 use Rattle.namespace_core.specs.Commands.{IsTableOrNamed}
 use Rattle.namespace_core.proofs.AcceptedCreates.{of-found}
 use Rattle.namespace_core.proofs.ChangePasses.{healed-fits, named-is, renamed-fits}

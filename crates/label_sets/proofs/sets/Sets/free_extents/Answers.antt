@@ -1,4 +1,4 @@
-use Rattle.std.proofs.Common.{◌<◌, List, Some, length, map, sym, subst, ◌∙◌, arith}
+use Rattle.std.proofs.Common.{◌<◌, List, Some, length, map, sym, subst, arith}
 use Rattle.std.proofs.lemmas.List.{length-map}
 use Rattle.region_sets.specs.declared.modules.LoadedModule.{LoadedModule}
 use Rattle.region_sets.specs.declared.region.RegionLabels.{RegionLabels}

@@ -1,4 +1,4 @@
-use Rattle.std.proofs.Common.{◌≡◌, ◌<◌, List, Some, length, map, ap, subst, ◌∙◌, arith}
+use Rattle.std.proofs.Common.{◌<◌, List, Some, length, map, subst, ◌∙◌, arith}
 use Rattle.std.specs.Prelude.{IfSome}
 use Rattle.std.proofs.lemmas.List.{length-map}
 use Rattle.label_table.specs.Statuses.{status}
