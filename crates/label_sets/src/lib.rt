@@ -18,6 +18,7 @@ mod sets;
 mod staging;
 mod sweep;
 mod views;
+mod whole_views;
 
 pub use init::SetInitFault;
 pub use load::SetFault;
