@@ -1,6 +1,7 @@
 -- How regions and modules are shown.
 use Rattle.std.specs.Prelude.{◌≡◌, ℕ, ◌<◌, List, [], Option, None, Some, find, length, map, if◌then◌else◌}
 use Rattle.std.specs.Prelude.{slice_index_or}
+use Rattle.std.specs.List.{AllZip}
 use Rattle.view_types.specs.declared.extents.Extent.{Extent}
 use Rattle.view_types.specs.declared.states.AreaState.{AreaState}
 use Rattle.view_types.specs.declared.states.AreaState.TheVariants as state
@@ -8,6 +9,7 @@ use Rattle.view_types.specs.declared.states.Status.{Status}
 use Rattle.view_types.specs.declared.states.Status.TheVariants as shown
 use Rattle.view_types.specs.declared.views.ModuleView.{ModuleView}
 use Rattle.view_types.specs.declared.views.RegionView.{RegionView}
+use Rattle.view_types.specs.declared.views.View.{View}
 use Rattle.module_labels.specs.Labels.{Labels, is_ready}
 use Rattle.region_map.specs.declared.platform.Platform.{Platform}
 use Rattle.region_map.specs.declared.platform.Region.{Region}
@@ -94,3 +96,8 @@ IsModuleViewOf platform labels (Some loaded) (Some view) = IsModuleView platform
 -- the module with a device handle is shown, where there is one
 abbrev pub ViewsModule : StoredSets → ℕ → Option ModuleView → Type 0
 ViewsModule sets dimm found = IsModuleViewOf (platform_in sets) (labels_in sets) (find (is_of dimm) sets.modules) found
+
+-- all regions of a state and all its modules are shown, one after the other
+pub record IsView (sets : StoredSets) (view : View) : Type 0 where
+  pub regions_are : AllZip (IsRegionView (platform_in sets) (labels_in sets)) sets.regions view.regions
+  pub modules_are : AllZip (IsModuleView (platform_in sets) (labels_in sets)) sets.modules view.modules

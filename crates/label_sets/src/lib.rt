@@ -19,6 +19,7 @@ mod staging;
 mod statuses;
 mod sweep;
 mod views;
+mod whole_views;
 
 pub use init::SetInitFault;
 pub use load::SetFault;

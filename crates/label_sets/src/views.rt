@@ -10,8 +10,8 @@ ghost use Rattle.label_table.specs.Statuses.{RegionStatus};
 ghost use Rattle.region_sets.specs.Modules.{is_of};
 ghost use Rattle.region_sets.specs.Statuses.{shown_status, space_in};
 ghost use Rattle.label_sets.specs.Sets.{labels_in, platform_in};
-ghost use Rattle.label_sets.specs.Views.{IsPlaceOf, IsRegionView, ShowsFree, ViewsModule, ViewsRegion, area_state};
-ghost use Rattle.label_sets.specs.Views.{spare_at, where_ready};
+ghost use Rattle.label_sets.specs.Views.{IsModuleView, IsPlaceOf, IsRegionView, ShowsFree, ViewsModule, ViewsRegion};
+ghost use Rattle.label_sets.specs.Views.{area_state, spare_at, where_ready};
 
 use crate::sets::Sets;
 use extent_alloc::Extents;
@@ -32,7 +32,7 @@ impl Sets {
     }
 
     /// The region at a place among the regions.
-    fn view_at(&self, alloc: Global, place: usize) -> Result<RegionView, AllocError>
+    pub(crate) fn view_at(&self, alloc: Global, place: usize) -> Result<RegionView, AllocError>
         requires { place < length self.now.regions }
         ensures { (d : Region) → IfOk result (IsRegionView (platform_in self.now) (labels_in self.now)
             (slice_index_or self.now.regions place d)) }
@@ -81,15 +81,26 @@ impl Sets {
     pub fn module_view(&self, alloc: Global, dimm: u32) -> Result<Option<ModuleView>, AllocError>
         ensures { IfOk result (ViewsModule self.now dimm) }
     {
-        let Some(loaded) = self.module_of(dimm) else {
-            return Ok(None);
-        };
+        match self.module_of(dimm) {
+            Some(loaded) => Ok(Some(self.view_of(alloc, loaded)?)),
+            None => Ok(None),
+        }
+    }
+
+    /// A module as it was loaded.
+    pub(crate) fn view_of(
+        &self,
+        alloc: Global,
+        loaded: &LoadedModule,
+    ) -> Result<ModuleView, AllocError>
+        ensures { IfOk result (IsModuleView (platform_in self.now) (labels_in self.now) loaded.now) }
+    {
         let held = held_labels(alloc, &self.modules, &self.regions, loaded)?;
-        Ok(Some(ModuleView {
-            dimm,
+        Ok(ModuleView {
+            dimm: loaded.dimm,
             state: self.state_of(loaded),
             held: List::from_vec(held),
-        }))
+        })
     }
 
     /// How many slots of a module are left for new labels. `None` exactly where the platform has no such module, or its

@@ -3,3 +3,4 @@ pub mod Standing
 pub mod Changing
 pub mod Initialising
 pub mod Success
+pub mod Viewing

@@ -5,3 +5,4 @@ pub mod Sessions
 pub mod Codes
 pub mod Kept
 pub mod Success
+pub mod Views

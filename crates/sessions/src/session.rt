@@ -11,6 +11,7 @@ ghost use Rattle.sessions.specs.Commands.{Does, HasAreas, IsBeforeOrAfter, Leave
 ghost use Rattle.sessions.specs.Faults.{HasOpenCause, HasRunCause, IsOpenAmong, IsRunAmong, IsRunAt, IsSpent, spent_after};
 ghost use Rattle.sessions.specs.Sessions.{IsCurrent, labels_of, opens, slots_of, state_of};
 ghost use Rattle.sessions.specs.Success.{CanCreate, HasCreated};
+ghost use Rattle.sessions.specs.Views.{IsView};
 
 use crate::commands::do_command;
 use crate::faults::{OpenFault, RunFault};
@@ -18,10 +19,10 @@ use cmd_words::Command;
 use label_sets::{Sets, read_state};
 use region_map::Platform;
 use rig_trait::Rig;
-use std::alloc::Global;
+use std::alloc::{AllocError, Global};
 use std::marker::Model;
 use uuid::Uuid;
-use view_types::Reply;
+use view_types::{Reply, View};
 
 /// The state that the label storage areas of a platform's modules stand for, as they were read at the start, and as
 /// commands changed it since.
@@ -134,5 +135,15 @@ impl Session {
                 Err(fault)
             }
         }
+    }
+
+    /// The platform with the state that is kept: all its regions, by index, and all its modules, by handle. Addresses
+    /// and lengths are in bytes. No area is read, and it fails for want of memory alone.
+    ///
+    /// A session that is spent shows what it keeps, which may be another state than that of the areas.
+    pub fn view(&self, alloc: Global) -> Result<View, AllocError>
+        ensures { IfOk result (IsView self.now.platform (labels_of self.now)) }
+    {
+        self.sets.view(alloc)
     }
 }
