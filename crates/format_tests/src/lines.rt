@@ -1,4 +1,4 @@
-use cmd_words::*;
+use cmd_words::{Command, NameKey, read_line};
 use std::alloc::{AllocError, Global};
 use std::test::Fail;
 use view_types::{Key, WordFault};

@@ -1,7 +1,7 @@
 ghost use Rattle.std.specs.Prelude.{◌≡◌, true};
 ghost use Rattle.report_json.specs.Texts.{is_one_line};
 
-use report_json::*;
+use report_json::{initialised_line, refusal_line, reply_text, short_text, text_laws};
 use std::alloc::Global;
 use std::process::Abort;
 use std::test::Fail;

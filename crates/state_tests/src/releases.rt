@@ -2,6 +2,7 @@ ghost use Rattle.region_map.specs.Platforms.{IsSound};
 
 use crate::platforms::platform;
 use crate::stored::{Stored, rig_of};
+use Stored::Label;
 use label_sets::read_state;
 use namespace_core::release_held;
 use region_map::Platform;
@@ -10,8 +11,6 @@ use std::alloc::{AllocError, Global};
 use std::process::Abort;
 use std::test::Fail;
 use view_types::{AreaState, Refusal, Reply, Status};
-
-use Stored::Label;
 
 const ROLABEL: u32 = 1;
 
@@ -84,7 +83,10 @@ const RELEASED: [Row; 3] = [
         Ok(1),
     ),
     (
-        &[Label(0x13, 0, 0, LENGTH, 0), Label(0x13, 0, 0x40_0000, LENGTH, 0)],
+        &[
+            Label(0x13, 0, 0, LENGTH, 0),
+            Label(0x13, 0, 0x40_0000, LENGTH, 0),
+        ],
         true,
         0x1,
         Ok(2),

@@ -3,6 +3,7 @@ ghost use Rattle.region_map.specs.Platforms.{IsSound};
 
 use crate::platforms::platform;
 use crate::stored::{Stored, rig_of};
+use Stored::Label;
 use label_area::Area;
 use label_sets::{SetFault, SetInitFault, Sets, read_state};
 use namespace_core::release_held;
@@ -12,8 +13,6 @@ use std::alloc::{AllocError, Global};
 use std::process::Abort;
 use std::test::Fail;
 use view_types::{AreaState, Extent, Held, Namespace, Reply, Status};
-
-use Stored::Label;
 
 const MIB: u64 = 0x10_0000;
 
@@ -256,11 +255,7 @@ const GIVEN_UP: Stored = Label(0x20, 0, 0x4000_0000, 2 * MIB, 0);
 const UUID_20: [u8; 16] = *b"\x0f\x6b\x1a\x52\x7c\x3e\x4d\x28\x9a\x41\x5b\xe0\xc7\xd2\xe8\x20";
 
 /// The same state, after the first module gave up a label that it held. The free extents are not known then.
-fn given_up(
-    alloc: Global,
-    first: &[Stored],
-    second: Option<&[Stored]>,
-) -> Result<Sets, Fail> {
+fn given_up(alloc: Global, first: &[Stored], second: Option<&[Stored]>) -> Result<Sets, Fail> {
     let mut labels = first.to_vec(alloc)?;
     labels.push(GIVEN_UP)?;
     let mut rig = rig_of(alloc, &labels, second)?;
