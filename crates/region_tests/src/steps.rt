@@ -91,10 +91,10 @@ fn refusals_of_a_create(rt: HostRuntime) -> Result<(), Fail> {
     Ok(())
 }
 
+/// The label of a namespace that the other module has lost is held, and is released once.
 #[test]
 fn refusals_of_a_release(rt: HostRuntime) -> Result<(), Fail> {
     let platform = platform(&rt)?;
-    // The label of a namespace that the other module has lost is held, and is released once.
     let lost = [
         module(&rt, 0x1, AreaKind::Ready, Some(label(0, 0)))?,
         module(&rt, 0x101, AreaKind::Ready, None)?,
@@ -114,7 +114,13 @@ fn refusals_of_a_release(rt: HostRuntime) -> Result<(), Fail> {
         release_refusal(&platform, &lost, 0x2, &UUID),
         Some(Refusal::UnknownDimm { dimm: 0x2 })
     );
-    // It is kept while the area of the other module is missing, whose own labels are not known.
+    Ok(())
+}
+
+/// A label is kept while the area of the other module is missing, whose own labels are not known.
+#[test]
+fn labels_beside_a_missing_area(rt: HostRuntime) -> Result<(), Fail> {
+    let platform = platform(&rt)?;
     let missing = [
         module(&rt, 0x1, AreaKind::Ready, Some(label(UPDATING, 0)))?,
         module(&rt, 0x101, AreaKind::Missing, None)?,
