@@ -2,7 +2,9 @@ ghost use Rattle.std.specs.Prelude.{IfOk};
 ghost use Rattle.rig_trait.specs.Areas.{IsWithin};
 
 use crate::calls::{read_whole, write_inside};
-use rig_trait::*;
+use rig_trait::{
+    Failed, FileRig, FileSource, MemoryRig, MemorySource, Rig, Source, StdSource, write_two,
+};
 use std::alloc::{AllocError, Global};
 use std::io::{Cursor, ErrorKind, Read};
 use std::test::Fail;

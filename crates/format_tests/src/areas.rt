@@ -1,7 +1,5 @@
 use std::test::Fail;
-use test_areas::{
-    LABEL, LabelFields, block, name, nfit, old_block, small_area, torn, two_modules,
-};
+use test_areas::{LABEL, LabelFields, block, name, nfit, old_block, small_area, torn, two_modules};
 
 /// The checksums of an empty first block and of a label, worked out by hand, and the offsets of the parts.
 #[test]

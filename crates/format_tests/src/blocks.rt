@@ -78,34 +78,37 @@ fn free_bits(rt: HostRuntime) {
     }
 }
 
+/// The kind of a block that is as it was written.
+const USABLE: BlockKind = BlockKind::Usable { seq: 3 };
+
 /// Bytes that are changed in the first block of an area of 1,024 bytes, with the checksum that goes with them, and the
 /// kind of the block.
+const BLOCKS: [(&[(u8, u8)], BlockKind); 18] = [
+    (&[], USABLE),
+    (&[(15, 1)], BlockKind::Unsigned),
+    (&[(16, 9)], USABLE),
+    (&[(19, 0)], BlockKind::Foreign),
+    (&[(20, 0)], BlockKind::Foreign),
+    (&[(20, 4)], BlockKind::Foreign),
+    (&[(20, 7)], USABLE),
+    (&[(20, 1)], BlockKind::Usable { seq: 1 }),
+    (&[(24, 1)], BlockKind::Foreign),
+    (&[(32, 0), (33, 0)], BlockKind::Unsigned),
+    (&[(32, 128), (33, 0)], BlockKind::Unsigned),
+    (&[(33, 2)], BlockKind::Unsigned),
+    (&[(41, 2)], BlockKind::Foreign),
+    (&[(49, 1)], BlockKind::Foreign),
+    (&[(56, 3)], BlockKind::Foreign),
+    (&[(60, 2)], BlockKind::Foreign),
+    (&[(62, 1)], BlockKind::Foreign),
+    (&[(255, 1)], USABLE),
+];
+
 #[test]
 fn blocks_read(rt: HostRuntime) -> Result<(), Fail> {
-    let usable = BlockKind::Usable { seq: 3 };
-    let rows: [(&[(u8, u8)], BlockKind); 18] = [
-        (&[], usable),
-        (&[(15, 1)], BlockKind::Unsigned),
-        (&[(16, 9)], usable),
-        (&[(19, 0)], BlockKind::Foreign),
-        (&[(20, 0)], BlockKind::Foreign),
-        (&[(20, 4)], BlockKind::Foreign),
-        (&[(20, 7)], usable),
-        (&[(20, 1)], BlockKind::Usable { seq: 1 }),
-        (&[(24, 1)], BlockKind::Foreign),
-        (&[(32, 0), (33, 0)], BlockKind::Unsigned),
-        (&[(32, 128), (33, 0)], BlockKind::Unsigned),
-        (&[(33, 2)], BlockKind::Unsigned),
-        (&[(41, 2)], BlockKind::Foreign),
-        (&[(49, 1)], BlockKind::Foreign),
-        (&[(56, 3)], BlockKind::Foreign),
-        (&[(60, 2)], BlockKind::Foreign),
-        (&[(62, 1)], BlockKind::Foreign),
-        (&[(255, 1)], usable),
-    ];
     let g = Geometry::of(1024, 256).ok_or("no geometry")?;
     assert_eq!(rt; g.block, 256);
-    for (changes, kind) in rows {
+    for (changes, kind) in BLOCKS {
         let mut window = block(false, 3, 3);
         for (at, value) in changes {
             window[usize::from(*at)] = *value;

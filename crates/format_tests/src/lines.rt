@@ -1,66 +1,67 @@
-use cmd_words::*;
+use cmd_words::{Command, NameKey, read_line};
 use std::alloc::{AllocError, Global};
 use std::test::Fail;
 use view_types::{Key, WordFault};
 
 /// Lines, and the commands that they are: none where they are blank or comments.
+const COMMANDS: [(&str, Option<Command>); 15] = [
+    ("", None),
+    ("   ", None),
+    ("#", None),
+    ("  #to-spa x", None),
+    ("init-labels dimm=1", Some(Command::InitLabels { dimm: 1 })),
+    (
+        "  init-labels   dimm=0xFFffffff  ",
+        Some(Command::InitLabels { dimm: u32::MAX }),
+    ),
+    ("list", Some(Command::ListSpaces { region: None })),
+    (
+        "list region=0xffff",
+        Some(Command::ListSpaces {
+            region: Some(u16::MAX),
+        }),
+    ),
+    ("list-regions", Some(Command::ListRegions)),
+    ("list-free region=1", Some(Command::ListFree { region: 1 })),
+    (
+        "list-held dimm=0x101",
+        Some(Command::ListHeld { dimm: 0x101 }),
+    ),
+    (
+        "to-module region=65535 spa=0x0000000100000000",
+        Some(Command::ToModule {
+            region: u16::MAX,
+            spa: 0x1_0000_0000,
+        }),
+    ),
+    (
+        "to-module spa=18446744073709551615 region=00000000000000000007",
+        Some(Command::ToModule {
+            region: 7,
+            spa: u64::MAX,
+        }),
+    ),
+    (
+        "to-spa dpa=0 dimm=257 region=0x2",
+        Some(Command::ToSpa {
+            region: 2,
+            dimm: 257,
+            dpa: 0,
+        }),
+    ),
+    (
+        "to-runs region=1 spa=0xffffffffffffffff length=2M",
+        Some(Command::ToRuns {
+            region: 1,
+            spa: u64::MAX,
+            length: 2_097_152,
+        }),
+    ),
+];
+
 #[test]
 fn commands(rt: HostRuntime) {
-    let lines = [
-        ("", None),
-        ("   ", None),
-        ("#", None),
-        ("  #to-spa x", None),
-        ("init-labels dimm=1", Some(Command::InitLabels { dimm: 1 })),
-        (
-            "  init-labels   dimm=0xFFffffff  ",
-            Some(Command::InitLabels { dimm: u32::MAX }),
-        ),
-        ("list", Some(Command::ListSpaces { region: None })),
-        (
-            "list region=0xffff",
-            Some(Command::ListSpaces {
-                region: Some(u16::MAX),
-            }),
-        ),
-        ("list-regions", Some(Command::ListRegions)),
-        ("list-free region=1", Some(Command::ListFree { region: 1 })),
-        (
-            "list-held dimm=0x101",
-            Some(Command::ListHeld { dimm: 0x101 }),
-        ),
-        (
-            "to-module region=65535 spa=0x0000000100000000",
-            Some(Command::ToModule {
-                region: u16::MAX,
-                spa: 0x1_0000_0000,
-            }),
-        ),
-        (
-            "to-module spa=18446744073709551615 region=00000000000000000007",
-            Some(Command::ToModule {
-                region: 7,
-                spa: u64::MAX,
-            }),
-        ),
-        (
-            "to-spa dpa=0 dimm=257 region=0x2",
-            Some(Command::ToSpa {
-                region: 2,
-                dimm: 257,
-                dpa: 0,
-            }),
-        ),
-        (
-            "to-runs region=1 spa=0xffffffffffffffff length=2M",
-            Some(Command::ToRuns {
-                region: 1,
-                spa: u64::MAX,
-                length: 2_097_152,
-            }),
-        ),
-    ];
-    for (line, command) in lines {
+    for (line, command) in COMMANDS {
         assert_eq!(rt; read_line(line.as_bytes()), Ok(command), "at {line}");
     }
 }
@@ -85,59 +86,54 @@ const UUID: [u8; 16] = [
 ];
 
 /// 63 characters, with a zero behind them.
-fn longest_name() -> [u8; 64] {
-    let mut name = [b'9'; 64];
-    name[..4].copy_from_slice(b"aZ._");
-    name[62] = b'-';
-    name[63] = 0;
-    name
-}
+const LONGEST: [u8; 64] = *b"aZ._9999999999999999999999999999999999999999999999999999999999-\0";
 
 /// Lines of commands that change namespaces.
+const CHANGES: [(&str, Command); 6] = [
+    ("create-namespace region=1 size=4M", PLAIN),
+    (
+        "create-namespace mode=raw sector-size=512 name= size=4194304 region=0x1",
+        PLAIN,
+    ),
+    (
+        "create-namespace uuid=0F6b1A52-7c3E-4d28-9A41-5bE0C7d2e813 sector-size=4096 mode=fsdax \
+         name=aZ._9999999999999999999999999999999999999999999999999999999999- size=0 region=65535",
+        Command::Create {
+            region: u16::MAX,
+            size: 0,
+            name: LONGEST,
+            abstraction: PAGE_FRAMES,
+            sector: 4096,
+            uuid: Some(UUID),
+        },
+    ),
+    (
+        "destroy-namespace namespace=0F6B1A52-7c3e-4d28-9a41-5be0c7d2e813 region=1",
+        Command::Destroy {
+            region: 1,
+            key: NameKey::Uuid(UUID),
+        },
+    ),
+    (
+        "rename-namespace region=1 namespace=aZ._9999999999999999999999999999999999999999999999999999999999- name=",
+        Command::Rename {
+            region: 1,
+            key: NameKey::Name(LONGEST),
+            name: [0; 64],
+        },
+    ),
+    (
+        "release-held uuid=0f6b1a52-7c3e-4d28-9a41-5be0c7d2e813 dimm=0x101",
+        Command::ReleaseHeld {
+            dimm: 0x101,
+            uuid: UUID,
+        },
+    ),
+];
+
 #[test]
 fn changes(rt: HostRuntime) {
-    let lines = [
-        ("create-namespace region=1 size=4M", PLAIN),
-        (
-            "create-namespace mode=raw sector-size=512 name= size=4194304 region=0x1",
-            PLAIN,
-        ),
-        (
-            "create-namespace uuid=0F6b1A52-7c3E-4d28-9A41-5bE0C7d2e813 sector-size=4096 mode=fsdax \
-             name=aZ._9999999999999999999999999999999999999999999999999999999999- size=0 region=65535",
-            Command::Create {
-                region: u16::MAX,
-                size: 0,
-                name: longest_name(),
-                abstraction: PAGE_FRAMES,
-                sector: 4096,
-                uuid: Some(UUID),
-            },
-        ),
-        (
-            "destroy-namespace namespace=0F6B1A52-7c3e-4d28-9a41-5be0c7d2e813 region=1",
-            Command::Destroy {
-                region: 1,
-                key: NameKey::Uuid(UUID),
-            },
-        ),
-        (
-            "rename-namespace region=1 namespace=aZ._9999999999999999999999999999999999999999999999999999999999- name=",
-            Command::Rename {
-                region: 1,
-                key: NameKey::Name(longest_name()),
-                name: [0; 64],
-            },
-        ),
-        (
-            "release-held uuid=0f6b1a52-7c3e-4d28-9a41-5be0c7d2e813 dimm=0x101",
-            Command::ReleaseHeld {
-                dimm: 0x101,
-                uuid: UUID,
-            },
-        ),
-    ];
-    for (line, command) in lines {
+    for (line, command) in CHANGES {
         assert_eq!(rt; read_line(line.as_bytes()), Ok(Some(command)), "at {line}");
     }
 }
@@ -178,75 +174,76 @@ fn values(rt: HostRuntime) -> Result<(), Fail> {
 }
 
 /// Lines, and their first faults.
+const FAULTS: [(&str, WordFault); 19] = [
+    ("# \t", WordFault::Byte { at: 2 }),
+    ("labels dimm=1", WordFault::Unknown),
+    ("to-spa dimm=1 x dimm=2", WordFault::Key { piece: 2 }),
+    (
+        "to-spa dimm=1 dimm=2 x",
+        WordFault::Twice { key: Key::Dimm },
+    ),
+    ("to-runs length=x", WordFault::Missing { key: Key::Region }),
+    ("init-labels dimm==1", WordFault::Value { key: Key::Dimm }),
+    (
+        "create-namespace name=x region=x",
+        WordFault::Missing { key: Key::Size },
+    ),
+    (
+        "create-namespace uuid=x sector-size=x mode=x name=/ size=x region=x",
+        WordFault::Value { key: Key::Region },
+    ),
+    (
+        "create-namespace uuid=x sector-size=x mode=x name=/ size=x region=1",
+        WordFault::Value { key: Key::Size },
+    ),
+    (
+        "create-namespace uuid=x sector-size=x mode=x name=/ size=1 region=1",
+        WordFault::Value { key: Key::Name },
+    ),
+    (
+        "create-namespace uuid=x sector-size=x mode=x size=1 region=1",
+        WordFault::Value { key: Key::Mode },
+    ),
+    (
+        "create-namespace uuid=x sector-size=x size=1 region=1",
+        WordFault::Value {
+            key: Key::SectorSize,
+        },
+    ),
+    (
+        "create-namespace uuid=x size=1 region=1",
+        WordFault::Value { key: Key::Uuid },
+    ),
+    (
+        "rename-namespace region=x namespace=/",
+        WordFault::Missing { key: Key::Name },
+    ),
+    (
+        "rename-namespace name=/ namespace= region=1",
+        WordFault::Value {
+            key: Key::Namespace,
+        },
+    ),
+    (
+        "rename-namespace name=0f6b1a52-7c3e-4d28-9a41-5be0c7d2e813 namespace=x region=1",
+        WordFault::Value { key: Key::Name },
+    ),
+    (
+        "destroy-namespace region=1 namespace=1234567890123456789012345678901234567890123456789012345678901234",
+        WordFault::Value {
+            key: Key::Namespace,
+        },
+    ),
+    ("release-held dimm=1", WordFault::Missing { key: Key::Uuid }),
+    (
+        "release-held dimm=1 uuid=x",
+        WordFault::Value { key: Key::Uuid },
+    ),
+];
+
 #[test]
 fn faults(rt: HostRuntime) {
-    let lines = [
-        ("# \t", WordFault::Byte { at: 2 }),
-        ("labels dimm=1", WordFault::Unknown),
-        ("to-spa dimm=1 x dimm=2", WordFault::Key { piece: 2 }),
-        (
-            "to-spa dimm=1 dimm=2 x",
-            WordFault::Twice { key: Key::Dimm },
-        ),
-        ("to-runs length=x", WordFault::Missing { key: Key::Region }),
-        ("init-labels dimm==1", WordFault::Value { key: Key::Dimm }),
-        (
-            "create-namespace name=x region=x",
-            WordFault::Missing { key: Key::Size },
-        ),
-        (
-            "create-namespace uuid=x sector-size=x mode=x name=/ size=x region=x",
-            WordFault::Value { key: Key::Region },
-        ),
-        (
-            "create-namespace uuid=x sector-size=x mode=x name=/ size=x region=1",
-            WordFault::Value { key: Key::Size },
-        ),
-        (
-            "create-namespace uuid=x sector-size=x mode=x name=/ size=1 region=1",
-            WordFault::Value { key: Key::Name },
-        ),
-        (
-            "create-namespace uuid=x sector-size=x mode=x size=1 region=1",
-            WordFault::Value { key: Key::Mode },
-        ),
-        (
-            "create-namespace uuid=x sector-size=x size=1 region=1",
-            WordFault::Value {
-                key: Key::SectorSize,
-            },
-        ),
-        (
-            "create-namespace uuid=x size=1 region=1",
-            WordFault::Value { key: Key::Uuid },
-        ),
-        (
-            "rename-namespace region=x namespace=/",
-            WordFault::Missing { key: Key::Name },
-        ),
-        (
-            "rename-namespace name=/ namespace= region=1",
-            WordFault::Value {
-                key: Key::Namespace,
-            },
-        ),
-        (
-            "rename-namespace name=0f6b1a52-7c3e-4d28-9a41-5be0c7d2e813 namespace=x region=1",
-            WordFault::Value { key: Key::Name },
-        ),
-        (
-            "destroy-namespace region=1 namespace=1234567890123456789012345678901234567890123456789012345678901234",
-            WordFault::Value {
-                key: Key::Namespace,
-            },
-        ),
-        ("release-held dimm=1", WordFault::Missing { key: Key::Uuid }),
-        (
-            "release-held dimm=1 uuid=x",
-            WordFault::Value { key: Key::Uuid },
-        ),
-    ];
-    for (line, fault) in lines {
+    for (line, fault) in FAULTS {
         assert_eq!(rt; read_line(line.as_bytes()), Err(fault), "at {line}");
     }
 }

@@ -1,7 +1,7 @@
 ghost use Rattle.std.specs.Prelude.{◌≡◌, true};
 ghost use Rattle.report_json.specs.Texts.{is_one_line};
 
-use report_json::*;
+use report_json::{initialised_line, refusal_line, reply_text, short_text, text_laws};
 use std::alloc::Global;
 use std::process::Abort;
 use std::test::Fail;
@@ -221,12 +221,30 @@ fn refusals(rt: HostRuntime) {
     }
 }
 
+/// A list of one namespace tells the word of its mode.
+fn says_mode(
+    rt: &impl Abort,
+    alloc: Global,
+    abstraction: [u8; 16],
+    word: &str,
+) -> Result<(), Fail> {
+    let mut listed = db0();
+    listed.space.abstraction = abstraction;
+    let text = format!(in alloc;
+        "  namespace uuid=0f6b1a52-7c3e-4d28-9a41-5be0c7d2e813 name=db0 region=1 mode={word} sector=512 offset=0 \
+length=8589934592 size=17179869184 pending=no read-only=no\nok namespaces=1\n"
+    )?;
+    let listed = Vec::from_array(alloc, [listed])?;
+    says(rt, alloc, &Reply::Namespaces(List::from_vec(listed)), &text)
+}
+
 #[test]
-fn modes(rt: HostRuntime) {
+fn modes(rt: HostRuntime) -> Result<(), Fail> {
     for (abstraction, word) in MODES {
-        assert_eq!(rt; mode_word(&abstraction), word);
+        says_mode(&rt, rt.alloc(), abstraction, word)?;
     }
     text_laws();
+    Ok(())
 }
 
 #[test]

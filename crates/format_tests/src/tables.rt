@@ -1,4 +1,7 @@
-use nfit_tables::*;
+use nfit_tables::{
+    ControlPiece, Header, MappingPiece, NfitFault, Piece, RangePiece, ReadNfit, fits, one_table,
+    read_nfit, write_nfit,
+};
 use std::alloc::Global;
 use std::test::Fail;
 use test_areas::{PERSISTENT_MEMORY, nfit, put_sum, two_modules};

@@ -7,16 +7,18 @@ ghost use Rattle.region_sets.specs.Regions.{IsOver};
 ghost use Rattle.region_changes.specs.Flips.{LosesLabels, ReplacesLabel};
 ghost use Rattle.region_changes.specs.SlotLabels.{AreApart, replaced_label, slot_labels};
 
-use region_changes::*;
+use crate::stored::area_with;
+use crate::two_ways::member;
 use label_area::Area;
 use label_codec::{Label, read_label};
+use region_changes::{SlotLabel, follow_free, follow_put, reserve, slot_label, slot_labels};
 use region_map::{Member, Region};
 use region_sets::{LoadedModule, ModuleArea, RegionLabels};
 use rig_trait::{MemoryRig, Rig};
 use std::alloc::{AllocError, Global};
 use std::process::Abort;
 use std::test::Fail;
-use test_areas::{BlockFields, LABEL, LabelFields};
+use test_areas::{LABEL, LabelFields};
 use view_types::List;
 
 /// A label, whose uuid ends with a byte.
@@ -25,42 +27,6 @@ fn label(last: u8) -> Option<Label> {
     uuid[15] = last;
     let fields = LabelFields { uuid, ..LABEL };
     read_label(&fields.bytes(), LABEL.slot)
-}
-
-/// An area of 4,096 bytes with 14 free slots.
-fn free_area(alloc: Global) -> Result<Vec<u8>, AllocError> {
-    let mut bytes = Vec::new(alloc);
-    for second in [false, true] {
-        let mut block = [0; 256];
-        BlockFields {
-            second,
-            seq: if second { 2 } else { 3 },
-            old: false,
-            slots: 14,
-            free: &[0xff, 0x3f],
-        }
-        .put(&mut block);
-        bytes.extend_from_slice(&block)?;
-    }
-    bytes.resize(4096, 0)?;
-    Ok(bytes)
-}
-
-fn member(handle: u32) -> Member
-    ensures { result.handle ≡ handle }
-{
-    Member {
-        handle,
-        dpa_base: 0,
-        size: 0x400_0000,
-        region_offset: 0,
-        interleave: 1,
-        ways: 2,
-        serial: 1,
-        vendor: 1,
-        date: 1,
-        location: 1,
-    }
 }
 
 fn region(alloc: Global, members: &[Member]) -> Result<Region, AllocError>
@@ -101,8 +67,8 @@ fn regions(alloc: Global, modules: &[LoadedModule]) -> Result<Vec<RegionLabels>,
     requires { map dimm_of modules.now ≡ 1 ∷ 2 ∷ [] }
     ensures { IfOk result (λ regions. All (IsOver modules.now) regions.items) }
 {
-    let both = region(alloc, &[member(1), member(2)])?;
-    let second = region(alloc, &[member(2)])?;
+    let both = region(alloc, &[member(1, 0), member(2, 0)])?;
+    let second = region(alloc, &[member(2, 0)])?;
     let mut regions = Vec::new(alloc);
     regions.push(RegionLabels::of(alloc, modules, &both)?)?;
     regions.push(RegionLabels::of(alloc, modules, &second)?)?;
@@ -354,8 +320,8 @@ fn flips_in(
 fn flips(rt: HostRuntime) -> Result<(), Fail> {
     let alloc = rt.alloc();
     let mut rig = MemoryRig::new(alloc, 0)?;
-    rig.add(1, free_area(alloc)?)?;
-    rig.add(2, free_area(alloc)?)?;
+    rig.add(1, area_with(alloc, &[])?)?;
+    rig.add(2, area_with(alloc, &[])?)?;
     let mut modules = modules(alloc, &mut rig)?;
     let mut kept = regions(alloc, &modules)?;
     flips_in(&rt, alloc, &mut rig, &mut modules, &mut kept)

@@ -13,8 +13,14 @@ mod platforms;
 #[cfg(test)]
 mod steps;
 #[cfg(test)]
+mod stored;
+#[cfg(test)]
 mod tables;
 #[cfg(test)]
 mod translations;
+#[cfg(test)]
+mod two_modules;
+#[cfg(test)]
+mod two_ways;
 #[cfg(test)]
 mod uuids;

@@ -3,16 +3,20 @@ ghost use Rattle.std.specs.List.{All};
 ghost use Rattle.region_sets.specs.Modules.{dimm_of};
 ghost use Rattle.region_sets.specs.Regions.{IsOver, handles};
 
-use region_lookups::*;
+use crate::stored::area_with;
+use crate::two_ways::member;
 use label_area::Area;
-use region_map::{Member, Region};
+use region_lookups::{
+    ModuleSpare, Named, first_pending, first_without_spare, free_slots_at, holder_of,
+    namespaces_named, other_named, spare_at,
+};
+use region_map::Region;
 use region_sets::{LoadedModule, ModuleArea, RegionLabels};
 use rig_trait::MemoryRig;
 use std::alloc::{AllocError, Global};
-use std::process::Abort;
 use std::test::Fail;
-use test_areas::{BlockFields, LABEL, LabelFields, name};
-use view_types::{List, Namespace};
+use test_areas::{LABEL, LabelFields, name};
+use view_types::List;
 
 const MIB: u64 = 0x10_0000;
 
@@ -42,30 +46,6 @@ fn updating(fields: LabelFields) -> LabelFields {
 
 fn uuid(last: u8) -> [u8; 16] {
     label(last, 0, 0).uuid
-}
-
-/// An area of 4,096 bytes with labels in its first slots, of 14 in all.
-fn area_with(alloc: Global, labels: &[LabelFields]) -> Result<Vec<u8>, AllocError> {
-    let used = (1u32 << (labels.len() % 14)) - 1;
-    let free = (0x3fff & !used).to_le_bytes();
-    let mut bytes = Vec::new(alloc);
-    for second in [false, true] {
-        let mut block = [0; 256];
-        BlockFields {
-            second,
-            seq: if second { 2 } else { 3 },
-            old: false,
-            slots: 14,
-            free: &free,
-        }
-        .put(&mut block);
-        bytes.extend_from_slice(&block)?;
-    }
-    for (slot, fields) in (0u32..).zip(labels) {
-        bytes.extend_from_slice(&LabelFields { slot, ..*fields }.bytes())?;
-    }
-    bytes.resize(4096, 0)?;
-    Ok(bytes)
 }
 
 /// A module with these labels.
@@ -99,30 +79,13 @@ fn modules(
     Ok(modules)
 }
 
-fn member(handle: u32) -> Member
-    ensures { result.handle ≡ handle }
-{
-    Member {
-        handle,
-        dpa_base: 0,
-        size: 64 * MIB,
-        region_offset: 0,
-        interleave: 0,
-        ways: 2,
-        serial: 0,
-        vendor: 0,
-        date: 0,
-        location: 0,
-    }
-}
-
 /// A region of the modules 0x101 and 0x1.
 fn region(alloc: Global) -> Result<Region, AllocError>
     ensures { IfOk result (λ region. handles region ≡ 0x101 ∷ 0x1 ∷ []) }
 {
     let mut members = List::new(alloc);
-    members.push(member(0x101))?;
-    members.push(member(0x1))?;
+    members.push(member(0x101, 0))?;
+    members.push(member(0x1, 0))?;
     Ok(Region {
         index: 1,
         spa: 0,

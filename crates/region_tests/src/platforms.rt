@@ -1,21 +1,11 @@
-use region_map::*;
-use nfit_tables::read_nfit;
-use std::alloc::Global;
+use crate::two_modules::platform;
+use region_map::{
+    Member, cookie11, cookie12, disjoint_regions, regions_by_index, unusable_regions,
+    usable_regions,
+};
 use std::test::Fail;
 
 const GIB: u64 = 1 << 30;
-
-/// The platform of two modules of 64 GiB, whose serial numbers are 1 and 2.
-fn platform(alloc: Global) -> Result<Platform, &'static str> {
-    let structures = test_areas::two_modules(alloc).ok().ok_or("no memory")?;
-    let bytes = test_areas::nfit(alloc, &structures)
-        .ok()
-        .ok_or("no memory")?;
-    let nfit = read_nfit(alloc, &bytes)
-        .ok()
-        .ok_or("the bytes are no table")?;
-    Platform::of(alloc, &nfit).ok().ok_or("no memory")
-}
 
 #[test]
 fn two_modules(rt: HostRuntime) -> Result<(), Fail> {
@@ -32,7 +22,7 @@ fn two_modules(rt: HostRuntime) -> Result<(), Fail> {
         location: 0,
     };
     let members = [member(0x1, 0, 1), member(0x101, 4096, 2)];
-    let platform = platform(rt.alloc())?;
+    let platform = platform(rt.alloc(), 2)?;
     assert_eq!(rt; platform.regions.len(), 1);
     let region = platform.region(1).ok_or("there is no region 1")?;
     assert_eq!(rt; (region.spa, region.length), (4 * GIB, 128 * GIB));

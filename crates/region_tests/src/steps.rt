@@ -1,99 +1,14 @@
-ghost use Rattle.std.specs.Prelude.{IfOk};
-ghost use Rattle.table_steps.specs.Plain.{HasFewModules};
-
-use table_steps::*;
-use label_codec::{LOCAL, Label, READ_ONLY, UPDATING};
-use label_table::ModuleLabels;
+use crate::two_ways::{UUID, label, module, platform, region};
+use label_codec::{LOCAL, READ_ONLY, UPDATING};
 use module_labels::AreaKind;
-use region_map::{Member, Platform, Region};
-use std::alloc::AllocError;
 use std::test::Fail;
-use view_types::{AreaState, List, PERSISTENT_MEMORY, Refusal, Reply, Status};
-
-const UUID: [u8; 16] = [0x0f; 16];
+use table_steps::{
+    bad_size, held_count, held_fixed, initialise, is_held, no_slots, not_held, region_lacks_area,
+    release_refusal, spare, uuid_in_use,
+};
+use view_types::{AreaState, Refusal, Reply, Status};
 
 const OTHER: [u8; 16] = [0x10; 16];
-
-fn member(handle: u32) -> Member {
-    Member {
-        handle,
-        dpa_base: 0,
-        size: 67_108_864,
-        region_offset: 0,
-        interleave: 1,
-        ways: 2,
-        serial: 1,
-        vendor: 1,
-        date: 0,
-        location: 0,
-    }
-}
-
-/// A region of 128 MiB over the modules 0x1 and 0x101.
-fn region(rt: &HostRuntime) -> Result<Region, AllocError>
-    ensures { IfOk result HasFewModules }
-{
-    let mut members = List::new(rt.alloc());
-    members.push(member(0x1))?;
-    members.push(member(0x101))?;
-    Ok(Region {
-        index: 1,
-        spa: 0,
-        length: 134_217_728,
-        rule: None,
-        members,
-        cookie: 7,
-    })
-}
-
-fn platform(rt: &HostRuntime) -> Result<Platform, AllocError> {
-    let mut regions = List::new(rt.alloc());
-    regions.push(region(rt)?)?;
-    let mut modules = List::new(rt.alloc());
-    modules.push(0x1)?;
-    modules.push(0x101)?;
-    Ok(Platform {
-        regions,
-        modules,
-        tables: List::new(rt.alloc()),
-    })
-}
-
-/// The label of a namespace of 4 MiB at a position.
-fn label(flags: u32, position: u16) -> Label {
-    Label {
-        uuid: UUID,
-        name: [0; 64],
-        flags,
-        nlabel: 2,
-        position,
-        cookie: 7,
-        lba_size: 512,
-        dpa: 0,
-        raw_size: 2_097_152,
-        slot: 0,
-        alignment: 0,
-        type_guid: PERSISTENT_MEMORY,
-        abstraction: [0; 16],
-    }
-}
-
-/// A module with two slots, one of which may have a label.
-fn module(
-    rt: &HostRuntime,
-    handle: u32,
-    kind: AreaKind,
-    first: Option<Label>,
-) -> Result<ModuleLabels, AllocError> {
-    let mut slots = List::new(rt.alloc());
-    slots.push(first)?;
-    slots.push(None)?;
-    Ok(ModuleLabels {
-        handle,
-        kind,
-        slots,
-    })
-}
 
 #[test]
 fn initialised_once(rt: HostRuntime) -> Result<(), Fail> {
@@ -176,10 +91,10 @@ fn refusals_of_a_create(rt: HostRuntime) -> Result<(), Fail> {
     Ok(())
 }
 
+/// The label of a namespace that the other module has lost is held, and is released once.
 #[test]
 fn refusals_of_a_release(rt: HostRuntime) -> Result<(), Fail> {
     let platform = platform(&rt)?;
-    // The label of a namespace that the other module has lost is held, and is released once.
     let lost = [
         module(&rt, 0x1, AreaKind::Ready, Some(label(0, 0)))?,
         module(&rt, 0x101, AreaKind::Ready, None)?,
@@ -199,7 +114,13 @@ fn refusals_of_a_release(rt: HostRuntime) -> Result<(), Fail> {
         release_refusal(&platform, &lost, 0x2, &UUID),
         Some(Refusal::UnknownDimm { dimm: 0x2 })
     );
-    // It is kept while the area of the other module is missing, whose own labels are not known.
+    Ok(())
+}
+
+/// A label is kept while the area of the other module is missing, whose own labels are not known.
+#[test]
+fn labels_beside_a_missing_area(rt: HostRuntime) -> Result<(), Fail> {
+    let platform = platform(&rt)?;
     let missing = [
         module(&rt, 0x1, AreaKind::Ready, Some(label(UPDATING, 0)))?,
         module(&rt, 0x101, AreaKind::Missing, None)?,

@@ -1,34 +1,14 @@
-ghost use Rattle.std.specs.Prelude.{IfOk};
 ghost use Rattle.region_map.specs.Platforms.{IsSound};
 
-use spa_translate::*;
-use nfit_tables::read_nfit;
+use crate::two_modules::platform;
 use region_map::{Platform, usable_regions};
+use spa_translate::{CheckFault, Weave, intervals_apart, one_to_one, whole_intervals};
 use std::alloc::Global;
 use std::process::Abort;
 use std::test::Fail;
-use test_areas::put_sum;
 use view_types::{List, Run, TranslateFault};
 
 const GIB: u64 = 1 << 30;
-
-/// Two modules of 64 GiB in lines of 4,096 bytes, where the first mapping tells this number of ways.
-fn platform(alloc: Global, ways: u8) -> Result<Platform, &'static str>
-    ensures { IfOk result (λ platform. IsSound platform) }
-{
-    let structures = test_areas::two_modules(alloc).ok().ok_or("no memory")?;
-    let mut bytes = test_areas::nfit(alloc, &structures)
-        .ok()
-        .ok_or("no memory")?;
-    if let Some(told) = bytes.get_mut(226) {
-        *told = ways;
-    }
-    put_sum(&mut bytes);
-    let nfit = read_nfit(alloc, &bytes)
-        .ok()
-        .ok_or("the bytes are no table")?;
-    Platform::of(alloc, &nfit).ok().ok_or("no memory")
-}
 
 /// What the check of region 1 says.
 fn checked(alloc: Global, platform: &Platform) -> Result<Result<Weave, CheckFault>, &'static str>

@@ -1,6 +1,6 @@
-use uuid_index::*;
 use label_codec::Label;
 use std::test::Fail;
+use uuid_index::{Entry, Found, Index};
 
 const FIRST: [u8; 16] = [0x0f; 16];
 

@@ -4,7 +4,7 @@ ghost use Rattle.std.specs.Prelude.{◌≡◌, IfOk, IfSome, false};
 ghost use Rattle.rig_trait.specs.Frames.{IsTold};
 ghost use Rattle.sessions.specs.Sessions.{IsCurrent};
 
-use command_runs::*;
+use command_runs::{LineFault, lines_of, run_lines};
 use nfit_tables::read_nfit;
 use region_map::Platform;
 use rig_trait::{Kept, MemoryRig, Rig};

@@ -6,11 +6,11 @@ ghost use Rattle.rig_trait.specs.Frames.{IsTold};
 ghost use Rattle.nfit_tables.specs.Proper.{IsProper};
 ghost use Rattle.sessions.specs.Sessions.{IsCurrent};
 
-use sessions::*;
 use cmd_words::{Command, NameKey};
 use nfit_tables::{Nfit, read_nfit};
 use region_map::Platform;
 use rig_trait::{FileRig, Kept, MemoryRig, Rig, Shown};
+use sessions::{OpenFault, RunFault, Session};
 use std::alloc::{AllocError, Global};
 use std::marker::Model;
 use std::process::Abort;

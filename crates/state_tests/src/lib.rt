@@ -8,4 +8,6 @@ mod releases;
 #[cfg(test)]
 mod states;
 #[cfg(test)]
+mod stored;
+#[cfg(test)]
 mod translations;

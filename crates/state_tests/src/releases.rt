@@ -1,14 +1,15 @@
 ghost use Rattle.region_map.specs.Platforms.{IsSound};
 
 use crate::platforms::platform;
-use namespace_core::*;
+use crate::stored::{Stored, rig_of};
+use Stored::Label;
 use label_sets::read_state;
+use namespace_core::release_held;
 use region_map::Platform;
 use rig_trait::MemoryRig;
 use std::alloc::{AllocError, Global};
 use std::process::Abort;
 use std::test::Fail;
-use test_areas::{LABEL, LabelFields, block, small_area};
 use view_types::{AreaState, Refusal, Reply, Status};
 
 const ROLABEL: u32 = 1;
@@ -17,40 +18,12 @@ const LOCAL: u32 = 2;
 
 const UPDATING: u32 = 8;
 
-/// A label of 2 MiB of the first module of a set of two.
-#[derive(Clone, Copy)]
-enum Stored {
-    /// The last byte of its uuid, its address, and its flags.
-    Label(u8, u64, u32),
-}
-
-use Stored::Label;
-
-impl Stored {
-    fn bytes(self, slot: u32) -> [u8; 256] {
-        let Label(last, dpa, flags) = self;
-        let mut fields = LabelFields {
-            nlabel: 2,
-            cookie: 0x0002_e242_0000_346b,
-            dpa,
-            raw_size: 0x20_0000,
-            flags,
-            slot,
-            ..LABEL
-        };
-        fields.uuid[15] = last;
-        fields.bytes()
-    }
-}
-
-/// The labels of an area with two slots.
-type Slots = [Option<Stored>; 2];
-
-const EMPTY: Slots = [None, None];
+/// The size of each label.
+const LENGTH: u64 = 0x20_0000;
 
 /// The labels of the first module, whether the second one has an area, which is empty, the module that is asked to give
 /// up its labels, and the answer to that.
-type Row = (Slots, bool, u32, Result<u32, Refusal>);
+type Row = (&'static [Stored], bool, u32, Result<u32, Refusal>);
 
 const MISSING: Refusal = Refusal::NotReady {
     status: Status::Area {
@@ -67,29 +40,29 @@ const READ_ONLY: Refusal = Refusal::ReadOnly { uuid: UUID };
 /// Each refusal, and that of a region without an area where the label is not to be changed either. An unknown module
 /// and one without an area hold no label.
 const REFUSED: [Row; 7] = [
-    (EMPTY, true, 0x2, Err(Refusal::UnknownDimm { dimm: 0x2 })),
-    (EMPTY, false, 0x101, Err(MISSING)),
+    (&[], true, 0x2, Err(Refusal::UnknownDimm { dimm: 0x2 })),
+    (&[], false, 0x101, Err(MISSING)),
     (
-        [Some(Label(0x14, 0, 0)), None],
+        &[Label(0x14, 0, 0, LENGTH, 0)],
         true,
         0x1,
         Err(Refusal::NotHeld),
     ),
-    ([Some(Label(0x13, 0, 0)), None], false, 0x1, Err(MISSING)),
+    (&[Label(0x13, 0, 0, LENGTH, 0)], false, 0x1, Err(MISSING)),
     (
-        [Some(Label(0x13, 0, ROLABEL)), None],
+        &[Label(0x13, 0, 0, LENGTH, ROLABEL)],
         true,
         0x1,
         Err(READ_ONLY),
     ),
     (
-        [Some(Label(0x13, 0, LOCAL)), None],
+        &[Label(0x13, 0, 0, LENGTH, LOCAL)],
         true,
         0x1,
         Err(READ_ONLY),
     ),
     (
-        [Some(Label(0x13, 0, ROLABEL)), None],
+        &[Label(0x13, 0, 0, LENGTH, ROLABEL)],
         false,
         0x1,
         Err(MISSING),
@@ -99,18 +72,21 @@ const REFUSED: [Row; 7] = [
 /// The label that is left of a namespace whose other module was replaced, alone and beside one that is dead; and two
 /// with the uuid.
 const RELEASED: [Row; 3] = [
-    ([Some(Label(0x13, 0, 0)), None], true, 0x1, Ok(1)),
+    (&[Label(0x13, 0, 0, LENGTH, 0)], true, 0x1, Ok(1)),
     (
-        [
-            Some(Label(0x14, 0x40_0000, UPDATING)),
-            Some(Label(0x13, 0, 0)),
+        &[
+            Label(0x14, 0, 0x40_0000, LENGTH, UPDATING),
+            Label(0x13, 0, 0, LENGTH, 0),
         ],
         true,
         0x1,
         Ok(1),
     ),
     (
-        [Some(Label(0x13, 0, 0)), Some(Label(0x13, 0x40_0000, 0))],
+        &[
+            Label(0x13, 0, 0, LENGTH, 0),
+            Label(0x13, 0, 0x40_0000, LENGTH, 0),
+        ],
         true,
         0x1,
         Ok(2),
@@ -121,7 +97,7 @@ const RELEASED: [Row; 3] = [
 fn refusals(rt: HostRuntime) -> Result<(), Fail> {
     let platform = platform(rt.alloc())?;
     for row in &REFUSED {
-        let mut rig = rig_of(rt.alloc(), row)?;
+        let mut rig = row_rig(rt.alloc(), row)?;
         answers(&rt, rt.alloc(), &platform, &mut rig, row.2, &row.3)?;
     }
     Ok(())
@@ -132,7 +108,7 @@ fn refusals(rt: HostRuntime) -> Result<(), Fail> {
 fn releases(rt: HostRuntime) -> Result<(), Fail> {
     let platform = platform(rt.alloc())?;
     for row in &RELEASED {
-        let mut rig = rig_of(rt.alloc(), row)?;
+        let mut rig = row_rig(rt.alloc(), row)?;
         answers(&rt, rt.alloc(), &platform, &mut rig, row.2, &row.3)?;
         let not_held = Err(Refusal::NotHeld);
         answers(&rt, rt.alloc(), &platform, &mut rig, row.2, &not_held)?;
@@ -141,31 +117,9 @@ fn releases(rt: HostRuntime) -> Result<(), Fail> {
 }
 
 /// The areas of a row.
-fn rig_of(alloc: Global, row: &Row) -> Result<MemoryRig, AllocError> {
-    let mut rig = MemoryRig::new(alloc, 0)?;
-    rig.add(0x1, area_with(alloc, &row.0)?)?;
-    if row.1 {
-        rig.add(0x101, area_with(alloc, &EMPTY)?)?;
-    }
-    Ok(rig)
-}
-
-fn area_with(alloc: Global, labels: &Slots) -> Result<Vec<u8>, AllocError> {
-    let free = u8::from(labels[0].is_none()) | u8::from(labels[1].is_none()) << 1;
-    let parts = [
-        block(false, 3, free),
-        block(true, 2, free),
-        slot_with(labels[0], 0),
-        slot_with(labels[1], 1),
-    ];
-    small_area(alloc, &parts)
-}
-
-fn slot_with(label: Option<Stored>, slot: u32) -> [u8; 256] {
-    match label {
-        Some(label) => label.bytes(slot),
-        None => [0; 256],
-    }
+fn row_rig(alloc: Global, row: &Row) -> Result<MemoryRig, AllocError> {
+    let second = if row.1 { Some([].as_slice()) } else { None };
+    rig_of(alloc, row.0, second)
 }
 
 fn answers(

@@ -1,16 +1,18 @@
-ghost use Rattle.std.specs.Prelude.{◌≡◌, IfOk, None};
+ghost use Rattle.std.specs.Prelude.{◌≡◌};
 ghost use Rattle.region_map.specs.Platforms.{IsSound};
 
-use label_sets::*;
+use crate::platforms::platform;
+use crate::stored::{Stored, rig_of};
+use Stored::Label;
 use label_area::Area;
-use nfit_tables::read_nfit;
+use label_sets::{SetFault, SetInitFault, Sets, read_state};
+use namespace_core::release_held;
 use region_map::Platform;
 use rig_trait::{Kept, MemoryRig};
 use std::alloc::{AllocError, Global};
 use std::process::Abort;
 use std::test::Fail;
-use test_areas::{BlockFields, LABEL, LabelFields, nfit, two_modules};
-use view_types::{AreaState, Extent, Held, Namespace, Status};
+use view_types::{AreaState, Extent, Held, Namespace, Reply, Status};
 
 const MIB: u64 = 0x10_0000;
 
@@ -23,32 +25,6 @@ const UPDATING: u32 = 8;
 const UUID_13: [u8; 16] = *b"\x0f\x6b\x1a\x52\x7c\x3e\x4d\x28\x9a\x41\x5b\xe0\xc7\xd2\xe8\x13";
 
 const UUID_14: [u8; 16] = *b"\x0f\x6b\x1a\x52\x7c\x3e\x4d\x28\x9a\x41\x5b\xe0\xc7\xd2\xe8\x14";
-
-/// A label of a set of two.
-#[derive(Clone, Copy)]
-enum Stored {
-    /// The last byte of its uuid, its position, its address and its size, and its flags.
-    Label(u8, u16, u64, u64, u32),
-}
-
-use Stored::Label;
-
-impl Stored {
-    fn fields(self) -> LabelFields {
-        let Label(last, position, dpa, raw_size, flags) = self;
-        let mut fields = LabelFields {
-            nlabel: 2,
-            cookie: 0x0002_e242_0000_346b,
-            position,
-            dpa,
-            raw_size,
-            flags,
-            ..LABEL
-        };
-        fields.uuid[15] = last;
-        fields
-    }
-}
 
 /// What is shown of a region: its status, the offset and the length of each namespace and whether it is pending and
 /// read-only, and its free extents.
@@ -157,63 +133,6 @@ const LEFT: [Row; 3] = [
         [NONE_HELD, ONE_HELD],
     ),
 ];
-
-/// An area of 4,096 bytes with labels in its first slots, of 14 in all.
-fn area_with(alloc: Global, labels: &[Stored]) -> Result<Vec<u8>, AllocError> {
-    let used = (1u32 << (labels.len() % 14)) - 1;
-    let free = (0x3fff & !used).to_le_bytes();
-    let mut bytes = Vec::new(alloc);
-    for second in [false, true] {
-        let mut block = [0; 256];
-        BlockFields {
-            second,
-            seq: if second { 2 } else { 3 },
-            old: false,
-            slots: 14,
-            free: &free,
-        }
-        .put(&mut block);
-        bytes.extend_from_slice(&block)?;
-    }
-    for (slot, label) in (0u32..).zip(labels) {
-        let mut fields = label.fields();
-        fields.slot = slot;
-        bytes.extend_from_slice(&fields.bytes())?;
-    }
-    bytes.resize(4096, 0)?;
-    Ok(bytes)
-}
-
-/// The platform of two modules in one region.
-fn platform(alloc: Global) -> Result<Platform, &'static str>
-    ensures { IfOk result IsSound }
-{
-    let structures = two_modules(alloc).ok().ok_or("no memory")?;
-    let bytes = nfit(alloc, &structures).ok().ok_or("no memory")?;
-    let table = match read_nfit(alloc, &bytes) {
-        Ok(table) => table,
-        Err(_) => return Err("no table"),
-    };
-    match Platform::of(alloc, &table) {
-        Ok(platform) => Ok(platform),
-        Err(_) => Err("no memory"),
-    }
-}
-
-fn rig_of(
-    alloc: Global,
-    first: &[Stored],
-    second: Option<&[Stored]>,
-) -> Result<MemoryRig, AllocError>
-    ensures { IfOk result (λ rig. rig.keeping ≡ None) }
-{
-    let mut rig = MemoryRig::new(alloc, 0)?;
-    rig.add(0x1, area_with(alloc, first)?)?;
-    if let Some(second) = second {
-        rig.add(0x101, area_with(alloc, second)?)?;
-    }
-    Ok(rig)
-}
 
 /// The state of the two modules, with room for a change.
 fn sets(alloc: Global, first: &[Stored], second: Option<&[Stored]>) -> Result<Sets, &'static str> {
@@ -330,6 +249,27 @@ fn known(rt: HostRuntime) -> Result<(), Fail> {
     Ok(())
 }
 
+/// A label of the first module that is held, and its uuid.
+const GIVEN_UP: Stored = Label(0x20, 0, 0x4000_0000, 2 * MIB, 0);
+
+const UUID_20: [u8; 16] = *b"\x0f\x6b\x1a\x52\x7c\x3e\x4d\x28\x9a\x41\x5b\xe0\xc7\xd2\xe8\x20";
+
+/// The same state, after the first module gave up a label that it held. The free extents are not known then.
+fn given_up(alloc: Global, first: &[Stored], second: Option<&[Stored]>) -> Result<Sets, Fail> {
+    let mut labels = first.to_vec(alloc)?;
+    labels.push(GIVEN_UP)?;
+    let mut rig = rig_of(alloc, &labels, second)?;
+    let platform = platform(alloc)?;
+    let mut sets = match read_state(alloc, &platform, &mut rig) {
+        Ok(sets) => sets,
+        Err(_) => return Err("no state".into()),
+    };
+    match release_held(alloc, &mut rig, &platform, &mut sets, 0x1, &UUID_20) {
+        Ok(Reply::Released { labels: 1 }) => Ok(sets),
+        _ => Err("nothing is given up".into()),
+    }
+}
+
 /// The free extents are the same where they are kept and where they are built anew.
 #[test]
 fn fits(rt: HostRuntime) -> Result<(), Fail> {
@@ -339,12 +279,12 @@ fn fits(rt: HostRuntime) -> Result<(), Fail> {
         (&NAMESPACES[1], 2 * MIB, 2 * (PART - 10 * MIB)),
         (&LEFT[2], 2 * MIB, 2 * (PART - 2 * MIB)),
     ] {
-        let mut sets = sets(alloc, row.0, row.1)?;
-        fits_at(&rt, alloc, &mut sets, offset, size)?;
-        forget_free(&mut sets);
-        shows_region(&rt, alloc, &sets, &row.2)?;
-        fits_at(&rt, alloc, &mut sets, offset, size)?;
-        shows_region(&rt, alloc, &sets, &row.2)?;
+        let mut kept = sets(alloc, row.0, row.1)?;
+        fits_at(&rt, alloc, &mut kept, offset, size)?;
+        let mut anew = given_up(alloc, row.0, row.1)?;
+        shows_region(&rt, alloc, &anew, &row.2)?;
+        fits_at(&rt, alloc, &mut anew, offset, size)?;
+        shows_region(&rt, alloc, &anew, &row.2)?;
     }
     Ok(())
 }
@@ -362,11 +302,6 @@ fn fits_at(
     assert_eq!(rt; sets.first_fit(alloc, 2, 2 * MIB)?, None);
     assert_eq!(rt; sets.largest(alloc, 2)?, None);
     Ok(())
-}
-
-/// As after a change that gave back space.
-fn forget_free(sets: &mut Sets) {
-    sets.free.forget();
 }
 
 /// Labels of the first module, and its free slots after a sweep of it, of 14.

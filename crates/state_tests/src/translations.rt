@@ -1,29 +1,7 @@
-ghost use Rattle.std.specs.Prelude.{IfOk};
-ghost use Rattle.region_map.specs.Platforms.{IsSound};
-
-use namespace_core::*;
-use nfit_tables::read_nfit;
-use region_map::Platform;
-use std::alloc::Global;
+use crate::platforms::platform;
+use namespace_core::{to_module, to_spa};
 use std::test::Fail;
-use test_areas::{nfit, two_modules};
 use view_types::{Refusal, Reply};
-
-/// The platform of two modules with lines of 4,096 bytes.
-pub(crate) fn platform(alloc: Global) -> Result<Platform, &'static str>
-    ensures { IfOk result IsSound }
-{
-    let structures = two_modules(alloc).ok().ok_or("no memory")?;
-    let bytes = nfit(alloc, &structures).ok().ok_or("no memory")?;
-    let table = match read_nfit(alloc, &bytes) {
-        Ok(table) => table,
-        Err(_) => return Err("no table"),
-    };
-    match Platform::of(alloc, &table) {
-        Ok(platform) => Ok(platform),
-        Err(_) => Err("no memory"),
-    }
-}
 
 #[test]
 fn translations(rt: HostRuntime) -> Result<(), Fail> {
