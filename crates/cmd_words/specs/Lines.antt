@@ -56,8 +56,12 @@ abbrev pub line_by_byte : Option ℕ → List ℕ → Result (Option Command) Wo
 line_by_byte (Some at) line = Err (Byte at)
 line_by_byte None line = line_of (pieces line)
 
+-- the most bytes of a line
+abbrev pub most_bytes : ℕ
+most_bytes = 4096
+
 -- the command that a line is, none where it is blank or a comment, or its first fault
 abbrev pub command_in : List ℕ → Result (Option Command) WordFault
 command_in line =
-    if nat_lt 4096 (length line) then Err TooLong
+    if nat_lt most_bytes (length line) then Err TooLong
     else line_by_byte (position (λ byte. not (is_visible_or_space byte)) line) line

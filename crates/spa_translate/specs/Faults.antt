@@ -24,11 +24,15 @@ table_named tables m = if m.interleave == 0 then None else find (λ table. table
 abbrev pub no_interleave : List LineTable → List Member → Bool
 no_interleave tables members = list_any (λ m. is_none (table_named tables m)) members
 
+-- the most lines that an interleave structure has where addresses are translated
+abbrev pub most_lines : ℕ
+most_lines = 4096
+
 abbrev pub has_too_many : Option LineTable → Bool
 has_too_many None = false
-has_too_many (Some table) = nat_lt 4096 (length table.lines)
+has_too_many (Some table) = nat_lt most_lines (length table.lines)
 
--- a structure that a member names has more than 4,096 lines
+-- a structure that a member names has more of them
 abbrev pub too_many_lines : List LineTable → List Member → Bool
 too_many_lines tables members = list_any (λ m. has_too_many (table_named tables m)) members
 

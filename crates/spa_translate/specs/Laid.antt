@@ -2,7 +2,7 @@
 use Rattle.std.specs.Prelude.{◌≡◌, ◌≢◌, ℕ, ◌+◌, ◌*◌, ◌%◌, ◌^◌, ◌≤◌, ◌<◌, All, AllPairs, List, [], ◌∷◌, length}
 use Rattle.spa_translate.specs.declared.strand.Strand.{Strand}
 use Rattle.spa_translate.specs.Woven.{Woven}
-use Rattle.spa_translate.specs.Faults.{all_lines, times}
+use Rattle.spa_translate.specs.Faults.{all_lines, most_lines, times}
 
 -- a part of so many lines a period, of their size, and of so many bytes
 pub record IsStrand (lines line_size size : ℕ) (strand : Strand) : Type 0 where
@@ -16,7 +16,7 @@ pub record IsLaid (lines line_size size : ℕ) (woven : Woven) : Type 0 where
   pub some : 0 < length woven.strands
   pub few : length woven.strands ≤ 16
   pub some_lines : 0 < lines
-  pub few_lines : lines ≤ 4096
+  pub few_lines : lines ≤ most_lines
   pub some_bytes : 0 < line_size
   pub not_empty : 0 < size
   pub each : All (IsStrand lines line_size size) woven.strands
@@ -39,7 +39,7 @@ line_size_each (strand ∷ strands) = strand.line_size
 pub record IsFit (woven : Woven) : Type 0 where
   pub some : 0 < length woven.strands
   pub few : length woven.strands ≤ 16
-  pub few_lines : All (λ (a : Strand). length a.lines ≤ 4096) woven.strands
+  pub few_lines : All (λ (a : Strand). length a.lines ≤ most_lines) woven.strands
   pub not_empty : 0 < woven.len
   pub capacity : All (λ (a : Strand). length woven.strands * a.size ≡ woven.len) woven.strands
   pub end : woven.spa + woven.len ≤ 2 ^ 63

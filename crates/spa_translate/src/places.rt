@@ -6,7 +6,7 @@ ghost use Rattle.spa_translate.specs.Laid.{HasFewLines};
 ghost use Rattle.spa_translate.specs.Places.{AreSlots, is_once, marked, place_of, with_place};
 ghost use Rattle.spa_translate.specs.declared.places.Slot.{Slot};
 
-use crate::strand::Strand;
+use crate::strand::{MOST_LINES, Strand};
 use std::alloc::{AllocError, Global};
 
 /// How often a line of a period is one of a part. `Once` has its place among the lines of all parts.
@@ -47,7 +47,7 @@ fn place_of(slot: Slot) -> u32
 /// of a period.
 fn line_at(strands: &[Strand], lines: usize, place: usize) -> Option<usize>
     requires few { length strands.now ≤ 16 }
-    requires few_lines { lines ≤ 4096 }
+    requires few_lines { lines ≤ MOST_LINES }
     requires each { All (HasFewLines lines) strands.now }
     requires below { place < length strands.now * lines }
     ensures { let line = slice_index (all_lines strands.now) place in
@@ -90,7 +90,7 @@ fn mark(slots: &mut [Slot], line: Option<usize>, place: u32)
 /// Puts each line of the parts.
 fn mark_all(strands: &[Strand], lines: usize, slots: &mut [Slot])
     requires few { length strands.now ≤ 16 }
-    requires few_lines { lines ≤ 4096 }
+    requires few_lines { lines ≤ MOST_LINES }
     requires each { All (HasFewLines lines) strands.now }
     requires len { length slots.old ≡ length strands.now * lines }
     requires free { AreSlots (all_lines strands.now) 0 slots.old }
@@ -109,7 +109,7 @@ pub(crate) fn slots_of(
     lines: usize,
 ) -> Result<Vec<Slot>, AllocError>
     requires few { length strands.now ≤ 16 }
-    requires few_lines { lines ≤ 4096 }
+    requires few_lines { lines ≤ MOST_LINES }
     requires each { All (HasFewLines lines) strands.now }
     ensures len { IfOk result (λ slots. length slots.items ≡ length strands.now * lines) }
     ensures slots { IfOk result

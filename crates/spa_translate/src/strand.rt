@@ -11,7 +11,7 @@ use std::alloc::{AllocError, Global};
 use view_types::List;
 
 /// The most lines that an interleave structure has where addresses are translated.
-const MOST_LINES: usize = 4096;
+pub(crate) const MOST_LINES: usize = 4096;
 
 /// A member's part of a region: its bytes in lines, which stand in turn with those of the other members.
 #[derive(Drop)]
@@ -75,7 +75,7 @@ fn names_none(tables: &[LineTable], member: &Member) -> bool
     table_named(tables, member).is_none()
 }
 
-/// A structure that a member names has more than 4,096 lines.
+/// A structure that a member names has more than `MOST_LINES` lines.
 pub(crate) fn too_many_lines(tables: &[LineTable], members: &[Member]) -> bool
     ensures { result ≡ too_many_lines tables.now members.now }
 {
