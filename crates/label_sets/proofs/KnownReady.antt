@@ -1,19 +1,22 @@
--- A region that is known to be Ready stays so where the table stays.
-use Rattle.std.proofs.Common.{◌≡◌, ℕ, List, Option, Some, None, map, refl, sym, ap, subst, ◌∙◌}
+-- A region that is known to be Ready stays so where the table stays, or loses a namespace.
+use Rattle.std.proofs.Common.{◌≡◌, inl, inr, ℕ, List, Option, Some, None, map, refl, sym, ap, subst, ◌∙◌}
 use Rattle.std.specs.Option.{option_and_then}
-use Rattle.std.specs.Prelude.{IfSome, slice_index_or}
+use Rattle.std.specs.Prelude.{◌==◌, IfSome, slice_index_or}
+use Rattle.std.specs.List.{Contains}
 use Rattle.view_types.specs.declared.states.Status.TheVariants as statuses
 use Rattle.region_map.specs.declared.platform.Region.{Region}
+use Rattle.region_map.specs.Platforms.{region_at}
 use Rattle.label_table.specs.Belonging.{IsDisjoint}
 use Rattle.label_table.specs.Statuses.{AreaNotReady, Clash, RegionReady, RegionStatus, Unusable, status}
-use Rattle.label_table.specs.Tables.{table}
-use Rattle.label_table.proofs.ListTests.{Contains-get_or, some_is}
-use Rattle.label_table.proofs.StatusLaws.{status-kept}
+use Rattle.label_table.specs.Tables.{ChangesAt, State, state, table, without_namespace}
+use Rattle.label_table.proofs.ListTests.{Contains-get_or, both, eq_same, eq_true, never, some_is}
+use Rattle.label_table.proofs.StatusLaws.{ready-without, status-elsewhere, status-kept}
 use Rattle.region_sets.specs.declared.modules.LoadedModule.{LoadedModule}
 use Rattle.region_sets.specs.declared.region.RegionLabels.{RegionLabels}
 use Rattle.region_sets.specs.Fates.{platform_of, region_in}
 use Rattle.region_sets.specs.Modules.{labels_in}
 use Rattle.region_sets.specs.Statuses.{shown_status}
+use Rattle.namespace_dropping.specs.Dropping.{IsBeforeOrWithout}
 use Rattle.label_sets.specs.declared.sets.Sets.TheInside.{Inside}
 use Rattle.label_sets.specs.Healing.{CanHealIn}
 use Rattle.label_sets.specs.Kept.{IsKnownReady, IsReadyIn, shown}
@@ -30,6 +33,37 @@ module _ (ms : List LoadedModule) (rs : List RegionLabels) (disjoint : IsDisjoin
   ready-kept (Some place) known same =
       subst (λ (qs : List Region). IsReadyIn (labels_in now) qs place) (sym same_regions)
       (known.0, λ d. status-kept (platform_of rs) disjoint (labels_in ms) (labels_in now) same (slice_index_or (map region_in rs) place d) (Contains-get_or (map region_in rs) place d known.0) ∙ known.1 d)
+
+  -- A region that loses a namespace stays Ready, and the others have their status.
+  module _ (r : Region) (in_P : Contains (map region_in rs) r) (u : List ℕ) where
+    abbrev IsGone : Type 0
+    IsGone = state (platform_of rs) (labels_in now) ≡ without_namespace r u (state (platform_of rs) (labels_in ms))
+
+    gone-changes : IsGone → ChangesAt (platform_of rs) r u None (labels_in ms) (labels_in now)
+    gone-changes gone = record {
+      disjoint = disjoint;
+      region_in = in_P;
+      kinds = ap (λ (s : State). s.table.kind) gone;
+      spaces = ap (λ (s : State). s.table.space) gone;
+    }
+
+    ready-there : IsGone → (q : Region) → Contains (map region_in rs) q → status (labels_in ms) q ≡ RegionReady → status (labels_in now) q ≡ RegionReady
+    ready-there gone q in_q ready = elim (both (r.index == q.index)) [
+      | inl t ↦
+          let same : q ≡ r = some_is (sym (disjoint.indexes q in_q) ∙ ap (region_at (platform_of rs)) (sym (eq_true r.index q.index t)) ∙ disjoint.indexes r in_P) in
+          subst (λ (p : Region). status (labels_in now) p ≡ RegionReady) (sym same)
+          (ready-without (platform_of rs) r u (labels_in ms) (labels_in now) (gone-changes gone) (subst (λ (p : Region). status (labels_in ms) p ≡ RegionReady) same ready))
+      | inr n ↦
+          status-elsewhere (platform_of rs) r u None (labels_in ms) (labels_in now) (gone-changes gone) q in_q (λ same. never (r.index == q.index) (eq_same r.index q.index (ap (λ (p : Region). p.index) (sym same))) n)
+          ∙ ready
+    ]
+
+    pub ready-dropped : (ready : Option ℕ) → IsKnownReady ms rs ready → IsBeforeOrWithout (platform_of rs) r u (labels_in ms) (labels_in now) → IsKnownReady now regions_now ready
+    ready-dropped ready known (inl same) = ready-kept ready known (ap (λ (s : State). s.table) same)
+    ready-dropped None known (inr gone) = tt
+    ready-dropped (Some place) known (inr gone) =
+        subst (λ (qs : List Region). IsReadyIn (labels_in now) qs place) (sym same_regions)
+        (known.0, λ d. ready-there gone (slice_index_or (map region_in rs) place d) (Contains-get_or (map region_in rs) place d known.0) (known.1 d))
 
 -- a region that can be healed is Ready
 pub ready-healed : (before : StoredSets) (index : ℕ) (uuid : List ℕ) (place : Option ℕ) → IsPlaceOf before.regions index place → OfRegion before index (CanHealIn before uuid) → IfSome place (IsReadyIn (sets.labels_in before) before.regions)

@@ -16,7 +16,7 @@ use Rattle.region_sets.specs.Fates.{platform_of, region_in, with_regions}
 use Rattle.region_sets.specs.Modules.{dimm_of, labels_in}
 use Rattle.region_changes.specs.Rooms.{KeepsRegion}
 use Rattle.module_flips.specs.Together.{IsTogether, StaysTogether}
-use Rattle.namespace_dropping.specs.Dropping.{CanDrop}
+use Rattle.namespace_dropping.specs.Dropping.{CanDrop, IsBeforeOrWithout}
 use Rattle.namespace_healing.specs.Healing.{CanHeal}
 use Rattle.namespace_healing.specs.Passes.{label_number, room_in}
 use Rattle.label_sets.specs.declared.sets.Sets.TheInside.{Inside}
@@ -27,7 +27,7 @@ use Rattle.label_sets.specs.Room.{HasRoom}
 use Rattle.module_sweeps.specs.Sweeps.{HasSlotsWithin}
 use Rattle.label_sets.specs.Sets.{StoredSets, platform_in}
 use Rattle.label_sets.specs.Staging.{OfRegion}
-use Rattle.label_sets.proofs.KnownReady.{ready-kept}
+use Rattle.label_sets.proofs.KnownReady.{ready-dropped, ready-kept}
 use Rattle.label_sets.proofs.EntryCounts.{counts-at, room-kept}
 use Rattle.label_sets.proofs.FreeAfter.{known-kept}
 use Rattle.label_sets.proofs.Stageable.{one-size-of, region-listed}
@@ -137,6 +137,13 @@ module _ (inside : Inside) (kept : IsKept inside) (ms : List LoadedModule) (rs :
       ready-kept inside.modules.items inside.regions.items kept.disjoint now regions_now same-regions ready known
       (subst (λ xs. table (platform_of inside.regions.items) (labels_in now) ≡ table (platform_of inside.regions.items) (labels_in xs)) m
       (subst (λ ys. table (platform_of ys) (labels_in now) ≡ table (platform_of ys) (labels_in ms)) n same_table))
+
+  -- the namespace of a region went, or the state stayed
+  pub ready-after-drop : (r : Region) → Contains (map region_in rs) r → (u : List ℕ) → IsBeforeOrWithout (platform_of rs) r u (labels_in ms) (labels_in now) → IsKnownReady now regions_now inside.ready
+  ready-after-drop r in_P u either =
+      ready-dropped inside.modules.items inside.regions.items kept.disjoint now regions_now same-regions r (subst (λ ys. Contains (map region_in ys) r) n in_P) u inside.ready kept.ready
+      (subst (λ xs. IsBeforeOrWithout (platform_of inside.regions.items) r u (labels_in xs) (labels_in now)) m
+      (subst (λ ys. IsBeforeOrWithout (platform_of ys) r u (labels_in ms) (labels_in now)) n either))
 
   -- no module has more labels
   pub room-after : AllZip (KeepsRegion room_in) rs regions_now → map label_number now ≡ map label_number ms → inside.room ≡ true → HasRoom regions_now inside.free

@@ -60,7 +60,6 @@ impl Sets {
     {
         self.room = false;
         self.free.forget();
-        self.ready = None;
         match platform.region(region) {
             Some(found) => drop_labels(rig, &mut self.modules, &mut self.regions, found, uuid),
             None => unreachable!(),

@@ -12,6 +12,7 @@ ghost use Rattle.module_flips.specs.Stops.{HasAreaCause, LeftIn, WritesAmong};
 ghost use Rattle.module_flips.specs.Stored.{StandsIn};
 
 use crate::sets::Sets;
+use crate::views::place_of;
 use module_flips::AreaFailed;
 use namespace_marking::mark_labels;
 use region_map::Platform;
@@ -57,6 +58,8 @@ impl Sets {
             HasAreaCause (handles found) R.Shown rig.old rig.new result) }
         ensures reads { R.reads rig.new ≡ R.reads rig.old }
     {
+        // The region is Ready, and stays so.
+        self.ready = place_of(&self.regions, region);
         match platform.region(region) {
             Some(found) => mark_labels(rig, &mut self.modules, &mut self.regions, found, uuid),
             None => unreachable!(),

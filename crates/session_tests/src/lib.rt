@@ -5,3 +5,5 @@
 mod lists;
 #[cfg(test)]
 mod stops;
+#[cfg(test)]
+mod views;

@@ -27,7 +27,7 @@ fn initialised(alloc: Global) -> Result<Vec<u8>, AllocError> {
 }
 
 /// A rig of two modules of a region, in which 4,096 bytes can be said. The area of the first one is not initialised.
-fn new_rig(alloc: Global) -> Result<MemoryRig, AllocError> {
+pub(crate) fn new_rig(alloc: Global) -> Result<MemoryRig, AllocError> {
     let mut rig = MemoryRig::new(alloc, 4096)?;
     rig.add(1, small_area(alloc, &[ZEROS; 4])?)?;
     rig.add(0x101, initialised(alloc)?)?;
@@ -35,7 +35,7 @@ fn new_rig(alloc: Global) -> Result<MemoryRig, AllocError> {
 }
 
 /// A session of the platform of two modules, where the areas can be read.
-fn start<R: Rig>(alloc: Global, rig: &mut R) -> Result<Option<Session>, Fail>
+pub(crate) fn start<R: Rig>(alloc: Global, rig: &mut R) -> Result<Option<Session>, Fail>
     ensures current { IsTold R.Shown rig.old → IfOk result (λ started. IfSome started (IsCurrent R.Shown rig.new)) }
     ensures unspent { IfOk result (λ started. IfSome started (λ session. session.spent ≡ false)) }
 {

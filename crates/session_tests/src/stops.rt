@@ -27,7 +27,7 @@ const MIB: u64 = 0x10_0000;
 /// Each module's part of its region: its base, and its size.
 const BASE: u64 = 32 * MIB;
 
-const PART: u64 = 16 * MIB;
+pub(crate) const PART: u64 = 16 * MIB;
 
 /// The length of each namespace.
 const LENGTH: u64 = 2 * MIB;
@@ -35,17 +35,17 @@ const LENGTH: u64 = 2 * MIB;
 const UPDATING: u32 = 8;
 
 /// The module of the other region.
-const OTHER: u32 = 0x1001;
+pub(crate) const OTHER: u32 = 0x1001;
 
 const WAYS: [u16; 4] = [1, 2, 3, 16];
 
 /// The last bytes of the uuids of a namespace, and of one that is made later.
 const EARLIER: u8 = 0x21;
 
-const LATER: u8 = 0x22;
+pub(crate) const LATER: u8 = 0x22;
 
 /// The module at a position.
-fn handle(position: u16) -> u32 {
+pub(crate) fn handle(position: u16) -> u32 {
     u32::from(position) * 0x100 + 1
 }
 
@@ -119,7 +119,7 @@ fn other_area(alloc: Global) -> Result<Vec<u8>, AllocError> {
 }
 
 /// The areas of all modules. Those of region 1 have these slots in use, none of them with a label.
-fn rig_of(alloc: Global, ways: u16, used: u16) -> Result<MemoryRig, AllocError>
+pub(crate) fn rig_of(alloc: Global, ways: u16, used: u16) -> Result<MemoryRig, AllocError>
     ensures { IfOk result (λ rig. rig.keeping ≡ None) }
 {
     let mut rig = MemoryRig::new(alloc, 0)?;
@@ -130,14 +130,14 @@ fn rig_of(alloc: Global, ways: u16, used: u16) -> Result<MemoryRig, AllocError>
     Ok(rig)
 }
 
-fn uuid_of(last: u8) -> [u8; 16] {
+pub(crate) fn uuid_of(last: u8) -> [u8; 16] {
     let mut uuid = LABEL.uuid;
     uuid[15] = last;
     uuid
 }
 
 /// A namespace is made in region 1.
-fn create(ways: u16, last: u8) -> Command {
+pub(crate) fn create(ways: u16, last: u8) -> Command {
     Command::Create {
         region: 1,
         size: u64::from(ways) * LENGTH,
@@ -163,7 +163,7 @@ fn asks(alloc: Global, ways: u16) -> Result<Vec<Command>, AllocError> {
 
 /// The platform, and what tells its state.
 #[derive(Drop)]
-struct Setting {
+pub(crate) struct Setting {
     ways: u16,
     nfit: Nfit,
     asks: Vec<Command>,
@@ -178,7 +178,7 @@ impl Model for Setting {
 }
 
 impl Setting {
-    fn of(alloc: Global, ways: u16) -> Result<Setting, Fail> {
+    pub(crate) fn of(alloc: Global, ways: u16) -> Result<Setting, Fail> {
         let bytes = table(alloc, ways)?;
         let asks = asks(alloc, ways)?;
         match read_nfit(alloc, &bytes) {
@@ -188,7 +188,7 @@ impl Setting {
     }
 
     /// A session over the areas of a rig.
-    fn start<R: Rig>(&self, alloc: Global, rig: &mut R) -> Result<Session, OpenFault>
+    pub(crate) fn start<R: Rig>(&self, alloc: Global, rig: &mut R) -> Result<Session, OpenFault>
         ensures { IsTold R.Shown rig.old → IfOk result (IsCurrent R.Shown rig.new) }
     {
         match Platform::of(alloc, &self.nfit) {
@@ -216,7 +216,7 @@ impl Setting {
 }
 
 /// The answer to a command on the areas that the session knows.
-fn run<R: Rig>(
+pub(crate) fn run<R: Rig>(
     alloc: Global,
     session: &mut Session,
     rig: &mut R,

@@ -7,8 +7,10 @@ ghost use Rattle.region_map.specs.Platforms.{IsSound};
 ghost use Rattle.region_sets.specs.Modules.{dimm_of, size_in};
 ghost use Rattle.module_flips.specs.Flips.{IsSizedIn};
 ghost use Rattle.module_flips.specs.Stops.{LeftIn, WritesAmong};
-ghost use Rattle.sessions.specs.Commands.{Does, HasAreas, IsBeforeOrAfter, LeavesArea, SaysIfKnown, is_init, may_change, written_by};
-ghost use Rattle.sessions.specs.Faults.{HasOpenCause, HasRunCause, IsOpenAmong, IsRunAmong, IsRunAt, IsSpent, spent_after};
+ghost use Rattle.sessions.specs.Commands.{Does, HasAreas, IsBeforeOrAfter, LeavesArea, SaysIfKnown};
+ghost use Rattle.sessions.specs.Commands.{is_init, may_change, written_by};
+ghost use Rattle.sessions.specs.Faults.{HasOpenCause, HasRunCause, IsOpenAmong, IsRunAmong, IsRunAt, IsSpent};
+ghost use Rattle.sessions.specs.Faults.{spent_after};
 ghost use Rattle.sessions.specs.Sessions.{IsCurrent, labels_of, opens, slots_of, state_of};
 ghost use Rattle.sessions.specs.Success.{CanCreate, HasCreated};
 ghost use Rattle.sessions.specs.Views.{IsView};
@@ -91,8 +93,8 @@ impl Session {
 
         // The reply and the state are those of the step.
         ensures step { IfOk result (λ reply. SaysIfKnown self.old.platform command.now
-            (IsCurrent R.Shown rig.old self.old) (Does self.old.platform (slots_of self.old) (labels_of self.old) command.now own reply
-            (state_of self.new))) }
+            (IsCurrent R.Shown rig.old self.old)
+            (Does self.old.platform (slots_of self.old) (labels_of self.old) command.now own reply (state_of self.new))) }
         ensures current { IsCurrent R.Shown rig.old self.old → OnOk result (IsCurrent R.Shown rig.new self.new) }
 
         // Where none of the conditions on a create fails it is accepted, unless an area fails or memory is refused.

@@ -1,4 +1,4 @@
-use Rattle.std.proofs.Common.{◌≡◌, Some, map, sym, ap, subst, ◌∙◌}
+use Rattle.std.proofs.Common.{◌≡◌, List, Some, map, sym, ap, subst, ◌∙◌}
 use Rattle.std.specs.List.{All}
 use Rattle.std.specs.Option.{option_copied}
 use Rattle.std.specs.Result.{OnOk}
@@ -8,12 +8,19 @@ use Rattle.rig_trait.specs.Frames.{LeavesOnly}
 use Rattle.label_table.specs.Tables.{table}
 use Rattle.region_map.specs.declared.platform.Region.{Region}
 use Rattle.region_map.specs.Platforms.{region_at}
+use Rattle.region_sets.specs.declared.region.RegionLabels.{RegionLabels}
+use Rattle.region_sets.specs.Fates.{region_in}
 use Rattle.region_sets.specs.Modules.{dimm_of}
 use Rattle.module_flips.specs.Stops.{LeftIn}
 use Rattle.module_flips.specs.Stored.{StandsIn}
 use Rattle.namespace_marking.specs.Marking.{IsMarked}
+use Rattle.label_sets.specs.Healing.{CanHealIn}
+use Rattle.label_sets.specs.Kept.{IsKnownReady, shown}
 use Rattle.label_sets.specs.Marking.{IsMarkedIn}
-use Rattle.label_sets.specs.Sets.{platform_in, state_in}
+use Rattle.label_sets.specs.Sets.{StoredSets, platform_in, state_in}
+use Rattle.label_sets.specs.Staging.{OfRegion}
+use Rattle.label_sets.specs.Views.{IsPlaceOf}
+use Rattle.label_sets.proofs.KnownReady.{ready-healed}
 use Rattle.label_sets.proofs.Passes.{can-heal, found-there, free-after, ready-after, room-after, seen, still-kept}
 use Rattle.label_sets.proofs.sets.Sets.mark_all.Goals as goal
 
@@ -33,9 +40,14 @@ invariant_of-self g c =
     let did = c.mark_labels.ensures in
     let now = c.mark_labels.new.modules in
     let regions = c.mark_labels.new.regions in
-    still-kept inside kept ms rs m n now regions did.together inside.free inside.ready inside.room
+    let place = c.place_of-self-inside.result in
+    let known : IsKnownReady inside.modules.items inside.regions.items place =
+    ready-healed (shown inside) c.args.region c.args.uuid.now place
+    (subst (λ (ys : List RegionLabels). IsPlaceOf (map region_in ys) c.args.region place) c.deref.ensures.value c.place_of-self-inside.ensures)
+    (subst (λ (s : StoredSets). OfRegion s c.args.region (CanHealIn s c.args.uuid.now)) (sym c.self.view_is) c.requires.mark) in
+    still-kept inside kept ms rs m n now regions did.together inside.free place inside.room
     (free-after inside kept ms rs m n now regions did.together did.table)
-    (ready-after inside kept ms rs m n now regions did.together inside.ready kept.ready did.table)
+    (ready-after inside kept ms rs m n now regions did.together place known did.table)
     (room-after inside kept ms rs m n now regions did.together did.room did.counts)
 
 pub returns-clause-stands : goal.returns-clause-stands
