@@ -11,6 +11,7 @@ pub mod InitialisedSets
 pub mod Refusals
 pub mod InitSets
 pub mod FreeAfter
+pub mod OwnRanges
 pub mod Stageable
 pub mod Written
 pub mod EntryCounts

@@ -2,7 +2,7 @@
 use Rattle.std.specs.Prelude.{◌≡◌, ◌≢◌, ℕ, IfSome, List, Option, None, Some, length, slice_get, slice_index_or}
 use Rattle.std.specs.Option.{option_and_then, option_map}
 use Rattle.std.specs.declared.vec.Vec.{Vec}
-use Rattle.view_types.specs.Intervals.{AreMaximal, is_free, without_range}
+use Rattle.view_types.specs.Intervals.{AreMaximal, is_free, with_range, without_range}
 use Rattle.extent_alloc.specs.Free.{FreeSpace}
 use Rattle.label_sets.specs.declared.free.FreeExtents.TheInside.{Inside}
 
@@ -21,13 +21,18 @@ pub record LosesRange (start len : ℕ) (before after : FreeSpace) : Type 0 wher
   pub taken : AreMaximal before.whole (without_range (is_free before.extents) start len) after.extents
   pub whole : after.whole ≡ before.whole
 
--- that of the region at a place has, and all others are as before
-pub record LosesRangeAt (place start len : ℕ) (before after : List FreeSpace) : Type 0 where
+-- or got one back
+pub record GainsRange (start len : ℕ) (before after : FreeSpace) : Type 0 where
+  pub released : AreMaximal before.whole (with_range (is_free before.extents) start len) after.extents
+  pub whole : after.whole ≡ before.whole
+
+-- that of the region at a place changes so, and all others are as before
+pub record ChangesAt (place : ℕ) (Change : FreeSpace → FreeSpace → Type 0) (before after : List FreeSpace) : Type 0 where
   pub each : length after ≡ length before
-  pub here : (e : FreeSpace) → LosesRange start len (slice_index_or before place e) (slice_index_or after place e)
+  pub here : (e : FreeSpace) → Change (slice_index_or before place e) (slice_index_or after place e)
   pub others : (other : ℕ) (e : FreeSpace) → other ≢ place → slice_index_or after other e ≡ slice_index_or before other e
 
--- where they are known, and else they are not known afterwards
-abbrev pub LosesKnownRange : ℕ → ℕ → ℕ → Option (List FreeSpace) → Option (List FreeSpace) → Type 0
-LosesKnownRange place start len None after = after ≡ None
-LosesKnownRange place start len (Some before) after = IfSome after (LosesRangeAt place start len before)
+-- so it is where they are known before and after: what is not known stays so
+abbrev pub ChangesKnown : ℕ → (FreeSpace → FreeSpace → Type 0) → Option (List FreeSpace) → Option (List FreeSpace) → Type 0
+ChangesKnown place Change None after = after ≡ None
+ChangesKnown place Change (Some before) after = IfSome after (ChangesAt place Change before)

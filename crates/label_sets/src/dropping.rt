@@ -1,21 +1,30 @@
 //! The second pass of destroying a namespace.
 
-ghost use Rattle.std.specs.Prelude.{◌≡◌, IsSome, OnOk, false, map};
+ghost use Rattle.std.specs.Prelude.{◌≡◌, ◌<◌, IfSome, IsSome, OnOk, false, length, map};
 ghost use Rattle.std.specs.List.{All};
 ghost use Rattle.rig_trait.specs.Frames.{IsTold, LeavesOnly};
-ghost use Rattle.region_map.specs.Platforms.{region_at};
-ghost use Rattle.region_sets.specs.Modules.{dimm_of};
+ghost use Rattle.region_map.specs.Platforms.{IsSound, region_at};
+ghost use Rattle.region_sets.specs.Fates.{platform_of};
+ghost use Rattle.region_sets.specs.Modules.{dimm_of, labels_in};
 ghost use Rattle.region_sets.specs.Regions.{handles};
 ghost use Rattle.module_flips.specs.Flips.{IsSizedIn};
 ghost use Rattle.module_flips.specs.Stops.{HasAreaCause, LeftIn, WritesAmong};
 ghost use Rattle.module_flips.specs.Stored.{StandsIn};
-ghost use Rattle.namespace_dropping.specs.Dropping.{IsBeforeOrWithout};
+ghost use Rattle.module_flips.specs.Together.{IsTogether, StaysTogether};
+ghost use Rattle.namespace_dropping.specs.Dropping.{IsBeforeOrWithout, IsDropped};
+ghost use Rattle.label_sets.specs.Dropping.{CanDropAt, HasAloneAt};
+ghost use Rattle.label_sets.specs.Kept.{IsKnownFree, IsKnownReady};
 
+use crate::free::FreeExtents;
 use crate::sets::Sets;
+use crate::views::place_of;
 use module_flips::AreaFailed;
 use namespace_dropping::drop_labels;
-use region_map::Platform;
+use region_lookups::lone_range;
+use region_map::{Platform, Region};
+use region_sets::{LoadedModule, RegionLabels};
 use rig_trait::Rig;
+use view_types::Extent;
 
 impl Sets {
     ghost use Rattle.region_sets.specs.Modules.{size_in};
@@ -26,7 +35,7 @@ impl Sets {
 
     /// Frees the labels of a namespace, all of which are marked as being changed and none of which is read-only, by
     /// position and one flip each. By the first flip the namespace is gone. It needs the platform whose state this is,
-    /// and takes no memory; the free extents are not known afterwards. A stop at any moment leaves areas that stand for
+    /// and takes no memory. A stop at any moment leaves areas that stand for
     /// the state before, or for that without the namespace. `Err` where the rig failed: what is kept is then what the
     /// flips before the failure made.
     pub fn drop_all<R: Rig>(
@@ -36,6 +45,7 @@ impl Sets {
         region: u16,
         uuid: &[u8; 16],
     ) -> Result<(), AreaFailed>
+        requires sound { IsSound platform.now }
         requires platform { platform.now.regions ≡ self.old.regions }
         requires found { IsSome (region_at (platform_in self.old) region) }
         requires drop { OfRegion self.old region (CanDropIn self.old uuid.now) }
@@ -59,10 +69,83 @@ impl Sets {
         ensures reads { R.reads rig.new ≡ R.reads rig.old }
     {
         self.room = false;
-        self.free.forget();
-        match platform.region(region) {
-            Some(found) => drop_labels(rig, &mut self.modules, &mut self.regions, found, uuid),
-            None => unreachable!(),
+        let (Some(found), Some(place)) = (platform.region(region), place_of(&self.regions, region))
+        else {
+            unreachable!()
+        };
+        drop_in(
+            rig,
+            &mut self.modules,
+            &mut self.regions,
+            &mut self.free,
+            self.ready,
+            place,
+            found,
+            uuid,
+        )
+    }
+}
+
+/// Drops a namespace of the region at a place, and gives its range back to the region's free space, where it is known
+/// to have had that alone. Else the free space is not known from then on.
+fn drop_in<R: Rig>(
+    rig: &mut R,
+    modules: &mut [LoadedModule],
+    regions: &mut [RegionLabels],
+    free: &mut FreeExtents,
+    ready: Option<usize>,
+    place: usize,
+    region: &Region,
+    uuid: &[u8; 16],
+) -> Result<(), AreaFailed>
+    requires drop { CanDropAt modules.old regions.old free.old ready place region.now uuid.now }
+    requires sized { IsTold R.Shown rig.old → All (IsSizedIn (R.areas rig.old)) modules.old }
+    ensures dropped { OnOk result (IsDropped modules.old regions.old region.now uuid.now modules.new) }
+    ensures either { IsBeforeOrWithout (platform_of regions.old) region.now uuid.now (labels_in modules.old)
+        (labels_in modules.new) }
+    ensures together { StaysTogether modules.old regions.old modules.new regions.new }
+    ensures free { IsKnownFree modules.new regions.new free.new }
+    ensures stands { IsTold R.Shown rig.old → All (StandsIn (R.areas rig.old)) modules.old
+        → OnOk result (All (StandsIn (R.areas rig.new)) modules.new) }
+    ensures any_moment { IsTold R.Shown rig.old → All (StandsIn (R.areas rig.old)) modules.old
+        → LeavesOnly R.Shown rig.old rig.new (LeftIn (map dimm_of modules.old) (R.said rig.old)
+        (IsBeforeOrWithout (platform_of regions.old) region.now uuid.now (labels_in modules.old))) }
+    ensures writes_among { WritesAmong (handles region.now) R.Shown rig.old rig.new }
+    ensures cause { HasAreaCause (handles region.now) R.Shown rig.old rig.new result }
+    ensures reads { R.reads rig.new ≡ R.reads rig.old }
+{
+    let range = own_range(modules, regions, ready, place, uuid);
+    match drop_labels(rig, modules, regions, region, uuid) {
+        Ok(()) => {
+            match range {
+                Some(range) => free.give_back(place, range.start, range.len),
+                None => free.forget(),
+            }
+            Ok(())
+        }
+        Err(failed) => {
+            free.forget();
+            Err(failed)
         }
     }
+}
+
+/// The range of a namespace of the region at a place, where the region is known to be Ready, and no held label reaches
+/// into that range.
+fn own_range(
+    modules: &[LoadedModule],
+    regions: &[RegionLabels],
+    ready: Option<usize>,
+    place: usize,
+    uuid: &[u8; 16],
+) -> Option<Extent>
+    requires together { IsTogether modules.now regions.now }
+    requires ready { IsKnownReady modules.now regions.now ready }
+    requires within { place < length regions.now }
+    ensures { IfSome result (HasAloneAt modules.now regions.now place uuid.now) }
+{
+    if ready? != place {
+        return None;
+    }
+    lone_range(modules, regions, &regions[place], uuid)
 }

@@ -1,13 +1,14 @@
 //! The free extents of regions.
 
-ghost use Rattle.std.specs.Prelude.{◌≡◌, ◌<◌, IfOk, IfSome, IsSome, None, OnOk, Some, length, map, slice_index_or};
+ghost use Rattle.std.specs.Prelude.{◌≡◌, ◌+◌, ◌<◌, ◌≤◌, IfOk, IfSome, IsSome, IsTrue, None, OnOk, Some};
+ghost use Rattle.std.specs.Prelude.{length, map, slice_index_or};
 ghost use Rattle.std.specs.List.{All};
 ghost use Rattle.std.specs.Option.{option_copied, option_map};
 ghost use Rattle.view_types.specs.Intervals as intervals;
-ghost use Rattle.view_types.specs.Intervals.{AreMaximal, is_free, without_range};
+ghost use Rattle.view_types.specs.Intervals.{AreMaximal, NoneFree, is_free, with_range, without_range};
 ghost use Rattle.extent_alloc.specs.Free.{FreeSpace};
 ghost use Rattle.region_sets.specs.Regions.{IsOver};
-ghost use Rattle.label_sets.specs.Free.{LosesKnownRange, LosesRange, space_at};
+ghost use Rattle.label_sets.specs.Free.{ChangesKnown, GainsRange, LosesRange, space_at};
 ghost use Rattle.label_sets.specs.Kept.{AllFree, IsKnownFree};
 ghost use Rattle.label_sets.specs.Room.{HaveExtentRoom, without_spare};
 
@@ -18,8 +19,8 @@ use std::alloc::{AllocError, Global};
 use std::marker::{Brand, Model};
 use std::sync::ledger::{Blank, Ledger};
 
-/// The free extents of each region, or none: a namespace or a held label that goes gives back space for which there may
-/// be no memory, so that they are not known from then on, until they are built anew.
+/// The free extents of each region, or none: a held label that goes, or a namespace for whose range there is no room,
+/// gives back space, so that they are not known from then on, until they are built anew.
 #[derive(Drop)]
 pub(crate) struct FreeExtents {
     each: Option<Vec<Extents>>,
@@ -99,10 +100,39 @@ impl FreeExtents {
         requires free { IfSome self.old (λ spaces. (e : FreeSpace)
             → intervals.AllFree (is_free (slice_index_or spaces place e).extents) start len) }
         requires spare { IfSome self.old (λ spaces. (e : FreeSpace) → 0 < (slice_index_or spaces place e).spare) }
-        ensures { LosesKnownRange place start len self.old self.new }
+        ensures { ChangesKnown place (LosesRange start len) self.old self.new }
     {
         if let Some(each) = &mut self.each {
             take_range(&mut each[place], start, len);
+        }
+    }
+
+    /// Gives a range back to the free extents of the region at a place, where they are known and have room for one more.
+    /// Else they are not known from then on. It takes no memory.
+    pub(crate) fn give_back(&mut self, place: usize, start: u64, len: u64)
+        requires some { 0 < len }
+        requires within { IfSome self.old (λ spaces. place < length spaces) }
+        requires inside { IfSome self.old (λ spaces. (e : FreeSpace)
+            → start + len ≤ (slice_index_or spaces place e).whole) }
+        requires taken { IfSome self.old (λ spaces. (e : FreeSpace)
+            → NoneFree (is_free (slice_index_or spaces place e).extents) start len) }
+        ensures { ChangesKnown place (GainsRange start len) self.old self.new }
+    {
+        if !self.has_spare(place) {
+            self.forget();
+        } else if let Some(each) = &mut self.each {
+            give_range(&mut each[place], start, len);
+        }
+    }
+
+    /// There is room for one extent more among those of the region at a place.
+    fn has_spare(&self, place: usize) -> bool
+        ensures { IsTrue result → IfSome self.now (λ spaces. (e : FreeSpace)
+            → 0 < (slice_index_or spaces place e).spare) }
+    {
+        match self.at(place) {
+            Some(free) => free.spare() > 0,
+            None => false,
         }
     }
 }
@@ -161,4 +191,30 @@ fn take_range_by<L: Ledger>(free: &mut Extents, start: u64, len: u64, blank: Bla
     ensures whole { free.new.whole ≡ free.old.whole }
 {
     free.carve(start, len, &mut Steps::<L>::new(blank));
+}
+
+/// Gives a range back to the free space of a region.
+fn give_range(free: &mut Extents, start: u64, len: u64)
+    requires some { 0 < len }
+    requires inside { start + len ≤ free.old.whole }
+    requires taken { NoneFree (is_free free.old.extents) start len }
+    requires spare { 0 < free.old.spare }
+    ensures { GainsRange start len free.old free.new }
+{
+    give_range_by::<Brand>(free, start, len, Blank::new(1));
+}
+
+/// The same, with a counter of steps that nobody asks for.
+fn give_range_by<L: Ledger>(free: &mut Extents, start: u64, len: u64, blank: Blank)
+    requires name { blank.name ≡ L.name }
+    requires parts { blank.parts ≡ L.parts }
+    requires one { 0 < blank.parts }
+    requires some { 0 < len }
+    requires inside { start + len ≤ free.old.whole }
+    requires taken { NoneFree (is_free free.old.extents) start len }
+    requires spare { 0 < free.old.spare }
+    ensures released { AreMaximal free.old.whole (with_range (is_free free.old.extents) start len) free.new.extents }
+    ensures whole { free.new.whole ≡ free.old.whole }
+{
+    free.release(start, len, &mut Steps::<L>::new(blank));
 }

@@ -4,3 +4,4 @@ mod Leading
 pub mod Neighbours
 pub mod Standing
 pub mod Pendings
+pub mod Reached

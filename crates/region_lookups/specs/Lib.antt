@@ -3,3 +3,4 @@ pub mod Named
 pub mod Tallies
 pub mod Holders
 pub mod Positions
+pub mod Ranges

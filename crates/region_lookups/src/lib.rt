@@ -6,9 +6,11 @@ mod holders;
 mod named;
 mod pending;
 mod positions;
+mod ranges;
 mod tallies;
 
 pub use holders::holder_of;
 pub use named::{Named, namespaces_named, other_named};
 pub use pending::first_pending;
 pub use positions::{ModuleSpare, first_without_spare, free_slots_at, spare_at};
+pub use ranges::lone_range;

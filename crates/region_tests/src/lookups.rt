@@ -7,7 +7,7 @@ use crate::stored::area_with;
 use crate::two_ways::member;
 use label_area::Area;
 use region_lookups::{
-    ModuleSpare, Named, first_pending, first_without_spare, free_slots_at, holder_of,
+    ModuleSpare, Named, first_pending, first_without_spare, free_slots_at, holder_of, lone_range,
     namespaces_named, other_named, spare_at,
 };
 use region_map::Region;
@@ -16,7 +16,7 @@ use rig_trait::MemoryRig;
 use std::alloc::{AllocError, Global};
 use std::test::Fail;
 use test_areas::{LABEL, LabelFields, name};
-use view_types::List;
+use view_types::{Extent, List};
 
 const MIB: u64 = 0x10_0000;
 
@@ -229,6 +229,31 @@ fn slots(rt: HostRuntime) -> Result<(), Fail> {
         (15, short(0, 0x101, 14)),
     ] {
         assert_eq!(rt; first_without_spare(&modules, &regions, kept, least), want);
+    }
+    Ok(())
+}
+
+/// A namespace has its range alone where no held label has an address of it. A dead label takes nothing from it.
+#[test]
+fn lone_ranges(rt: HostRuntime) -> Result<(), Fail> {
+    let alloc = rt.alloc();
+    let range = Extent {
+        start: 2 * MIB,
+        len: 2 * MIB,
+    };
+    for (held, want) in [
+        (0, Some(range)),
+        (1, None),
+        (4 * MIB - 1, None),
+        (4 * MIB, Some(range)),
+    ] {
+        let dead = updating(label(0x14, 0, 2 * MIB));
+        let first = [label(0x13, 0, 2 * MIB), dead];
+        let second = [label(0x13, 1, 2 * MIB), label(0x15, 1, held)];
+        let modules = modules(alloc, &first, &second, &[])?;
+        let regions = [kept(alloc, &modules)?];
+        let lone = |last| lone_range(&modules, &regions, &regions[0], &uuid(last));
+        assert_eq!(rt; (lone(0x13), lone(0x14)), (want, None));
     }
     Ok(())
 }

@@ -1,39 +1,65 @@
-use Rattle.std.proofs.Common.{false, sym, ap, subst, ◌∙◌}
+use Rattle.std.proofs.Common.{◌≡◌, List, map, Some, false, refl, sym, ap, subst, ◌∙◌}
 use Rattle.std.specs.List.{All}
 use Rattle.std.specs.Option.{option_copied}
 use Rattle.std.specs.Result.{OnOk}
 use Rattle.std.proofs.lemmas.Bool.{false≢true}
+use Rattle.region_map.specs.declared.platform.Region.{Region}
+use Rattle.region_map.specs.Platforms.{region_at}
+use Rattle.region_sets.specs.Fates.{platform_of, region_in, with_regions}
 use Rattle.module_flips.specs.Stored.{StandsIn}
-use Rattle.label_sets.specs.Kept.{IsKnownFree}
+use Rattle.label_sets.specs.Dropping.{CanDropAt}
+use Rattle.label_sets.specs.Sets.{StoredSets}
+use Rattle.label_sets.specs.Views.{IsPlaceOf}
 use Rattle.label_sets.proofs.Passes.{can-drop, ready-after-drop, seen, still-kept}
+use Rattle.label_sets.proofs.Stageable.{place-is, place-ordered, place-within}
 use Rattle.label_sets.proofs.sets.Sets.drop_all.Goals as goal
 
-pub drop_labels-requires-clause-can : goal.drop_labels-requires-clause-can
-drop_labels-requires-clause-can g c =
-    can-drop c.args.platform.now c.self.inside c.self.invariant c.args.self.now c.self.view_is c.requires.platform c.args.region c.in-Some.found.now (sym c.region.ensures ∙ ap option_copied c.in-Some.is)
-    c.deref_mut.result.now c.deref_mut-in-Some.result.now c.deref_mut.ensures.value c.deref_mut-in-Some.ensures.value c.args.uuid.now c.requires.drop
+pub drop_in-requires-clause-drop : goal.drop_in-requires-clause-drop
+drop_in-requires-clause-drop g c =
+    let inside = c.self.inside in
+    let kept = c.self.invariant in
+    let P = c.args.platform.now in
+    let rs = inside.regions.items in
+    let r = c.in-Some-Some.found.now in
+    let place = c.in-Some-Some.place in
+    let same : P.regions ≡ map region_in rs = c.requires.platform ∙ sym (ap (λ (s : StoredSets). s.regions) c.self.view_is) in
+    let there : region_at P c.args.region ≡ Some r = sym c.region.ensures ∙ ap option_copied c.in-Some-Some.is-0 in
+    let found : region_at (platform_of rs) c.args.region ≡ Some r = ap (λ (regions : List Region). region_at (with_regions regions) c.args.region) (sym same) ∙ there in
+    let is_place : IsPlaceOf (map region_in rs) c.args.region (Some place) =
+    subst (λ xs. IsPlaceOf (map region_in xs) c.args.region (Some place)) c.deref.ensures.value (subst (IsPlaceOf (map region_in c.deref.result.now) c.args.region) c.in-Some-Some.is-1 c.place_of.ensures) in
+    let sound = c.requires.sound in
+    let at : CanDropAt inside.modules.items rs inside.free inside.ready place r c.args.uuid.now = record {
+      within = place-within P sound inside.modules.items rs same c.args.region place r found is_place;
+      is = place-is P sound inside.modules.items rs same c.args.region place r found is_place;
+      can = can-drop P inside kept c.args.self.now c.self.view_is c.requires.platform c.args.region r there inside.modules.items rs refl refl c.args.uuid.now c.requires.drop;
+      ordered = place-ordered P sound inside.modules.items rs same c.args.region place r found is_place;
+      all_free = kept.free;
+      known_ready = kept.ready;
+    } in
+    subst (λ xs. CanDropAt xs c.deref_mut-2.result.now inside.free inside.ready place r c.args.uuid.now) (sym c.deref_mut.ensures.value)
+    (subst (λ ys. CanDropAt inside.modules.items ys inside.free inside.ready place r c.args.uuid.now) (sym c.deref_mut-2.ensures.value) at)
 
 pub invariant_of-self : goal.invariant_of-self
 invariant_of-self g c =
     let inside = c.self.inside in
     let kept = c.self.invariant in
     let ms = c.deref_mut.result.now in
-    let rs = c.deref_mut-in-Some.result.now in
+    let rs = c.deref_mut-2.result.now in
     let m = c.deref_mut.ensures.value in
-    let n = c.deref_mut-in-Some.ensures.value in
-    let r = c.in-Some.found.now in
-    let did = c.drop_labels.ensures in
-    let now = c.drop_labels.new.modules in
-    let regions = c.drop_labels.new.regions in
-    let can = can-drop c.args.platform.now inside kept c.args.self.now c.self.view_is c.requires.platform c.args.region r (sym c.region.ensures ∙ ap option_copied c.in-Some.is) ms rs m n c.args.uuid.now c.requires.drop in
-    still-kept inside kept ms rs m n now regions did.together c.forget.new.self inside.ready false (subst (IsKnownFree now regions) (sym c.forget.ensures) tt)
+    let n = c.deref_mut-2.ensures.value in
+    let r = c.in-Some-Some.found.now in
+    let did = c.drop_in.ensures in
+    let now = c.drop_in.new.modules in
+    let regions = c.drop_in.new.regions in
+    let can = can-drop c.args.platform.now inside kept c.args.self.now c.self.view_is c.requires.platform c.args.region r (sym c.region.ensures ∙ ap option_copied c.in-Some-Some.is-0) ms rs m n c.args.uuid.now c.requires.drop in
+    still-kept inside kept ms rs m n now regions did.together c.drop_in.new.free inside.ready false did.free
     (ready-after-drop inside kept ms rs m n now regions did.together r can.region_in c.args.uuid.now did.either)
     (λ e. absurd (false≢true e))
 
 pub returns-clause-stands : goal.returns-clause-stands
 returns-clause-stands g c = λ told.
     let old = g.R.Shown.areas c.args.rig.now in
-    let new = g.R.Shown.areas c.drop_labels.new.rig in
-    seen c.self.inside c.self.invariant c.deref_mut.result.now c.deref_mut-in-Some.result.now c.deref_mut.ensures.value c.deref_mut-in-Some.ensures.value c.drop_labels.new.modules c.drop_labels.new.regions c.drop_labels.ensures.together
-    c.args.self.now c.self.view_is (λ before after. All (StandsIn old) before.modules → OnOk c.drop_labels.result (All (StandsIn new) after.modules)) false
-    (c.drop_labels.ensures.stands told)
+    let new = g.R.Shown.areas c.drop_in.new.rig in
+    seen c.self.inside c.self.invariant c.deref_mut.result.now c.deref_mut-2.result.now c.deref_mut.ensures.value c.deref_mut-2.ensures.value c.drop_in.new.modules c.drop_in.new.regions c.drop_in.ensures.together
+    c.args.self.now c.self.view_is (λ before after. All (StandsIn old) before.modules → OnOk c.drop_in.result (All (StandsIn new) after.modules)) false
+    (c.drop_in.ensures.stands told)
