@@ -2,15 +2,19 @@
 use Rattle.std.specs.Prelude.{ℕ, ◌^◌, List, [], ◌∷◌, Option, Some, None, Result, Ok, Err, codes, if◌then◌else◌}
 use Rattle.std.specs.Str.{bytes_eq}
 use Rattle.view_types.specs.declared.key.Key.{Key}
-use Rattle.view_types.specs.declared.key.Key.TheVariants.{Dimm, Region, Size, Name, Mode, SectorSize, Uuid, Namespace, Spa, Dpa, Length}
+use Rattle.view_types.specs.declared.key.Key.TheVariants.{Dimm, Region, Size, Name, Mode, SectorSize, Uuid, Namespace}
+use Rattle.view_types.specs.declared.key.Key.TheVariants.{Spa, Dpa, Length}
 use Rattle.view_types.specs.declared.word_fault.WordFault.{WordFault}
 use Rattle.view_types.specs.Modes.{abstraction_of}
 use Rattle.cmd_words.specs.declared.commands.Command.{Command}
 use Rattle.cmd_words.specs.declared.commands.Command.TheVariants as command
 use Rattle.cmd_words.specs.declared.commands.Verb.{Verb}
-use Rattle.cmd_words.specs.declared.commands.Verb.TheVariants.{InitLabels, Create, Destroy, Rename, ReleaseHeld, ListSpaces, ListRegions, ListFree, ListHeld, ToModule, ToSpa, ToRuns}
+use Rattle.cmd_words.specs.declared.commands.Verb.TheVariants.{InitLabels, Create, Destroy, Rename, ReleaseHeld}
+use Rattle.cmd_words.specs.declared.commands.Verb.TheVariants.{ListSpaces, ListRegions, ListFree, ListHeld, ToModule}
+use Rattle.cmd_words.specs.declared.commands.Verb.TheVariants.{ToSpa, ToRuns}
 use Rattle.cmd_words.specs.declared.name_keys.NameKey.{NameKey}
-use Rattle.cmd_words.specs.Values.{mode_or_raw, name_for, name_or_empty, namespace_for, number_for, optional_region, optional_uuid, sector_size_or_512, size_for, uuid_for}
+use Rattle.cmd_words.specs.Values.{mode_or_raw, name_for, name_or_empty, namespace_for, number_for, optional_region}
+use Rattle.cmd_words.specs.Values.{optional_uuid, sector_size_or_512, size_for, uuid_for}
 
 -- the first piece of a command
 abbrev pub verb_of : List ℕ → Option Verb
@@ -78,18 +82,25 @@ abbrev pub command_of : Verb → List (List ℕ) → Result Command WordFault
 command_of InitLabels pieces = dimm_then pieces (λ dimm. Ok (command.InitLabels dimm))
 command_of Create pieces =
     region_then pieces (λ region. size_then Size pieces (λ size. and_then (name_or_empty pieces) (λ name.
-    and_then (mode_or_raw pieces) (λ mode. and_then (sector_size_or_512 pieces) (λ sector. and_then (optional_uuid pieces) (λ uuid.
+    and_then (mode_or_raw pieces) (λ mode.
+    and_then (sector_size_or_512 pieces) (λ sector. and_then (optional_uuid pieces) (λ uuid.
     Ok (command.Create region size name (abstraction_of mode) sector uuid)))))))
-command_of Destroy pieces = region_then pieces (λ region. namespace_then pieces (λ key. Ok (command.Destroy region key)))
+command_of Destroy pieces =
+    region_then pieces (λ region. namespace_then pieces (λ key. Ok (command.Destroy region key)))
 command_of Rename pieces =
-    region_then pieces (λ region. namespace_then pieces (λ key. and_then (name_for pieces) (λ name. Ok (command.Rename region key name))))
-command_of ReleaseHeld pieces = dimm_then pieces (λ dimm. and_then (uuid_for pieces) (λ uuid. Ok (command.ReleaseHeld dimm uuid)))
+    region_then pieces (λ region.
+    namespace_then pieces (λ key. and_then (name_for pieces) (λ name. Ok (command.Rename region key name))))
+command_of ReleaseHeld pieces =
+    dimm_then pieces (λ dimm. and_then (uuid_for pieces) (λ uuid. Ok (command.ReleaseHeld dimm uuid)))
 command_of ListSpaces pieces = optional_region_then pieces (λ region. Ok (command.ListSpaces region))
 command_of ListRegions pieces = Ok command.ListRegions
 command_of ListFree pieces = region_then pieces (λ region. Ok (command.ListFree region))
 command_of ListHeld pieces = dimm_then pieces (λ dimm. Ok (command.ListHeld dimm))
-command_of ToModule pieces = region_then pieces (λ region. address_then Spa pieces (λ spa. Ok (command.ToModule region spa)))
+command_of ToModule pieces =
+    region_then pieces (λ region. address_then Spa pieces (λ spa. Ok (command.ToModule region spa)))
 command_of ToSpa pieces =
-    region_then pieces (λ region. dimm_then pieces (λ dimm. address_then Dpa pieces (λ dpa. Ok (command.ToSpa region dimm dpa))))
+    region_then pieces (λ region.
+    dimm_then pieces (λ dimm. address_then Dpa pieces (λ dpa. Ok (command.ToSpa region dimm dpa))))
 command_of ToRuns pieces =
-    region_then pieces (λ region. address_then Spa pieces (λ spa. size_then Length pieces (λ length. Ok (command.ToRuns region spa length))))
+    region_then pieces (λ region.
+    address_then Spa pieces (λ spa. size_then Length pieces (λ length. Ok (command.ToRuns region spa length))))

@@ -1,5 +1,6 @@
 -- The line of a command, and the first fault of one that is none.
-use Rattle.std.specs.Prelude.{ℕ, ◌+◌, ◌&&◌, Bool, List, [], ◌∷◌, ◌++◌, Option, Some, None, Result, Ok, Err, codes, find, if◌then◌else◌, is_none, length, nat_eq, nat_le, nat_lt, not}
+use Rattle.std.specs.Prelude.{ℕ, ◌+◌, ◌&&◌, Bool, List, [], ◌∷◌, ◌++◌, Option, Some, None, Result, Ok, Err, codes, find}
+use Rattle.std.specs.Prelude.{if◌then◌else◌, is_none, length, nat_eq, nat_le, nat_lt, not}
 use Rattle.std.specs.List.{list_any, position, starts_with}
 use Rattle.std.specs.Option.{option_map, option_or}
 use Rattle.view_types.specs.declared.key.Key as keys
@@ -18,14 +19,16 @@ abbrev pub fault_by_key : List (List ℕ) → Option keys.Key → Option WordFau
 fault_by_key earlier None = Some (Key (length earlier + 1))
 fault_by_key earlier (Some key) = if list_any (gives key) earlier then Some (Twice key) else None
 
--- the fault of a piece behind others: it gives no value to a key of the command, or to one that an earlier piece gave one to
+-- the fault of a piece behind others: it gives no value to a key of the command, or to one that an earlier piece gave
+-- one to
 abbrev pub piece_fault : List keys.Key → List (List ℕ) → List ℕ → Option WordFault
 piece_fault keys earlier piece = fault_by_key earlier (key_of keys piece)
 
 -- the first fault of pieces behind others, from left to right
 abbrev pub first_fault : List keys.Key → List (List ℕ) → List (List ℕ) → Option WordFault
 first_fault keys earlier [] = None
-first_fault keys earlier (piece ∷ more) = option_or (piece_fault keys earlier piece) (first_fault keys (earlier ++ piece ∷ []) more)
+first_fault keys earlier (piece ∷ more) =
+    option_or (piece_fault keys earlier piece) (first_fault keys (earlier ++ piece ∷ []) more)
 
 -- the first of the keys to which no piece gives a value
 abbrev pub first_missing : List keys.Key → List (List ℕ) → Option keys.Key
@@ -33,7 +36,8 @@ first_missing keys pieces = find (λ key. is_none (given key pieces)) keys
 
 -- the first fault of the pieces behind a command, before its values are looked at
 abbrev pub keys_fault : Verb → List (List ℕ) → Option WordFault
-keys_fault verb pieces = option_or (first_fault (keys_of verb) [] pieces) (option_map Missing (first_missing (required_of verb) pieces))
+keys_fault verb pieces =
+    option_or (first_fault (keys_of verb) [] pieces) (option_map Missing (first_missing (required_of verb) pieces))
 
 abbrev pub as_some : Result Command WordFault → Result (Option Command) WordFault
 as_some (Ok command) = Ok (Some command)

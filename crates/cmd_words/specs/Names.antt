@@ -1,5 +1,6 @@
 -- The names of namespaces.
-use Rattle.std.specs.Prelude.{ℕ, ◌-◌, ◌==◌, ◌&&◌, ◌||◌, Bool, List, ◌++◌, Option, Some, None, if◌then◌else◌, is_none, length, nat_le, replicate}
+use Rattle.std.specs.Prelude.{ℕ, ◌-◌, ◌==◌, ◌&&◌, ◌||◌, Bool, List, ◌++◌, Option, Some, None, if◌then◌else◌, is_none}
+use Rattle.std.specs.Prelude.{length, nat_le, replicate}
 use Rattle.std.specs.Char.{is_ascii_alphanumeric}
 use Rattle.std.specs.List.{list_all}
 use Rattle.cmd_words.specs.Uuids.{uuid}

@@ -1,5 +1,6 @@
 -- Numbers and sizes.
-use Rattle.std.specs.Prelude.{ℕ, ◌*◌, ◌-◌, ◌^◌, ◌==◌, ◌&&◌, Bool, List, Option, Some, None, codes, drop, if◌then◌else◌, length, nat_eq, nat_le, nat_lt, slice_index, take}
+use Rattle.std.specs.Prelude.{ℕ, ◌*◌, ◌-◌, ◌^◌, ◌==◌, ◌&&◌, Bool, List, Option, Some, None, codes, drop, if◌then◌else◌}
+use Rattle.std.specs.Prelude.{length, nat_eq, nat_le, nat_lt, slice_index, take}
 use Rattle.std.specs.Char.{is_digit}
 use Rattle.std.specs.List.{list_all, starts_with}
 use Rattle.std.specs.Option.{option_map}

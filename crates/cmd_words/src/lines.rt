@@ -2,7 +2,8 @@
 
 ghost use Rattle.std.specs.Prelude.{◌≡◌, ◌≤◌, [], length, not, take};
 ghost use Rattle.std.specs.List.{position};
-ghost use Rattle.cmd_words.specs.Lines.{command_in, first_fault, first_missing, is_visible_or_space, keys_fault, line_of};
+ghost use Rattle.cmd_words.specs.Lines.{command_in, first_fault, first_missing, is_visible_or_space, keys_fault};
+ghost use Rattle.cmd_words.specs.Lines.{line_of};
 ghost use Rattle.cmd_words.specs.Lines.{piece_fault};
 ghost use Rattle.cmd_words.specs.Pieces.{pieces};
 

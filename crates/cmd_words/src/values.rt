@@ -2,7 +2,8 @@
 
 ghost use Rattle.std.specs.Prelude.{◌≡◌, ◌+◌, ◌^◌};
 ghost use Rattle.cmd_words.specs.Pieces.{pieces};
-ghost use Rattle.cmd_words.specs.Values.{mode_or_raw, name_for, name_or_empty, namespace_for, number_for, optional_region};
+ghost use Rattle.cmd_words.specs.Values.{mode_or_raw, name_for, name_or_empty, namespace_for, number_for};
+ghost use Rattle.cmd_words.specs.Values.{optional_region};
 ghost use Rattle.cmd_words.specs.Values.{optional_uuid, sector_size_or_512, size_for, uuid_for};
 
 use crate::keys::given;

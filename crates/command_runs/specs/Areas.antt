@@ -1,5 +1,6 @@
 -- Which areas the lines of a list may change, and the bytes of the others.
-use Rattle.std.specs.Prelude.{◌≡◌, ◌⊎◌, ℕ, Bool, true, false, List, [], Option, Some, None, Result, Ok, Err, if◌then◌else◌}
+use Rattle.std.specs.Prelude.{◌≡◌, ◌⊎◌, ℕ, Bool, true, false, List, [], Option, Some, None, Result, Ok, Err}
+use Rattle.std.specs.Prelude.{if◌then◌else◌}
 use Rattle.std.specs.FinMap.{get}
 use Rattle.std.specs.List.{All, flat_map}
 use Rattle.rig_trait.specs.Areas.{Areas}
@@ -58,7 +59,8 @@ IsWritten false dimm areas now = get now dimm ≡ get (initialised dimm areas) d
 -- An area whose labels do not change has its bytes, or it was initialised. `failed` is where the rig failed.
 abbrev pub KeepsAreas : (ℕ → Bool) → Platform → List ℕ → List ℕ → Areas → Areas → Type 0
 KeepsAreas failed platform changed named areas now = (dimm : ℕ) → is_among changed dimm ≡ false
-    → (get now dimm ≡ get areas dimm) ⊎ (MayInitialise platform named dimm areas × IsWritten (failed dimm) dimm areas now)
+    → (get now dimm ≡ get areas dimm)
+    ⊎ (MayInitialise platform named dimm areas × IsWritten (failed dimm) dimm areas now)
 
 abbrev pub KeepsBytes : (ℕ → Bool) → Platform → List (List ℕ) → Areas → Areas → Type 0
 KeepsBytes failed platform lines areas now =
@@ -77,8 +79,8 @@ LeavesLabels (Err fault) = Unit {0}
 abbrev pub LeaveLabels : List (List ℕ) → Type 0
 LeaveLabels lines = All (λ line. LeavesLabels (command_in line)) lines
 
--- What a stop leaves of areas where no labels change: each has its bytes; or it was Uninit, and in a fair record it is so
--- still, or is Ready without labels.
+-- What a stop leaves of areas where no labels change: each has its bytes; or it was Uninit, and in a fair record it is
+-- so still, or is Ready without labels.
 abbrev pub LeavesAreas : Platform → List ℕ → Areas → CrashRecord → Type 0
 LeavesAreas platform named areas c = (dimm : ℕ) → (get c.areas dimm ≡ get areas dimm)
     ⊎ (MayInitialise platform named dimm areas

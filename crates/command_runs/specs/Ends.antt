@@ -63,7 +63,8 @@ pub record IsUnchanged {R : Type 0} (m : Ghosts R) (known : Type 0) (run : Run) 
   pub through : IsThrough m known progress (m.said old) new session
   pub kept : progress.changed ≡ false → WritesNothing m old new
 
-abbrev pub IsEndedBy : {R : Type 0} → Ghosts R → Type 0 → Run → ℕ → Progress → R → R → StoredSession → LineFault → Type 0
+abbrev pub IsEndedBy : {R : Type 0} → Ghosts R → Type 0 → Run → ℕ → Progress → R → R → StoredSession → LineFault
+    → Type 0
 IsEndedBy m known run k progress old new session (Area dimm) = IsStopped m known run k progress old new
 IsEndedBy m known run k progress old new session Memory = IsUnchanged m known run k progress old new session
 IsEndedBy m known run k progress old new session Say = IsCutOff m known run k progress old new session

@@ -1,5 +1,6 @@
 -- Runs: what the lines of a list do to a state, one after the other, and the replies to them.
-use Rattle.std.specs.Prelude.{◌≡◌, ℕ, zero, suc, ◌+◌, ◌||◌, Bool, true, false, List, [], ◌++◌, Option, Some, None, Result, Ok, Err, slice_get}
+use Rattle.std.specs.Prelude.{◌≡◌, ℕ, zero, suc, ◌+◌, ◌||◌, Bool, true, false, List, [], ◌++◌, Option, Some, None}
+use Rattle.std.specs.Prelude.{Result, Ok, Err, slice_get}
 use Rattle.view_types.specs.declared.refusal.Refusal.TheVariants.{Words}
 use Rattle.view_types.specs.declared.reply.Reply.{Reply}
 use Rattle.view_types.specs.declared.reply.Reply.TheVariants.{Refused}
@@ -49,17 +50,19 @@ abbrev pub is_change_if : Option Reply → Bool
 is_change_if None = false
 is_change_if (Some reply) = is_change reply
 
--- A command does this to a state: what it does to any labels that stand for the state. `known` is what `init-labels` asks
--- for, which reads its area again: that the areas are those that are kept.
+-- A command does this to a state: what it does to any labels that stand for the state. `known` is what `init-labels`
+-- asks for, which reads its area again: that the areas are those that are kept.
 pub record DoesCommand (known : Type 0) (run : Run) (number : ℕ) (before : State) (command : Command) (reply : Reply)
     (after : State) : Type 0 where
   pub labels : Labels
   pub stands : state run.platform labels ≡ before
-  pub does : SaysIfKnown run.platform command known (Does run.platform run.slots labels command (own_uuid run.seed number) reply after)
+  pub does : SaysIfKnown run.platform command known
+      (Does run.platform run.slots labels command (own_uuid run.seed number) reply after)
 
 -- A line with a fault is refused; a blank line and a comment have no reply. Neither changes anything.
 abbrev pub DoesLine : Type 0 → Run → ℕ → State → Result (Option Command) WordFault → Option Reply → State → Type 0
-DoesLine known run number before (Ok (Some command)) (Some reply) after = DoesCommand known run number before command reply after
+DoesLine known run number before (Ok (Some command)) (Some reply) after =
+    DoesCommand known run number before command reply after
 DoesLine known run number before (Ok (Some command)) None after = ⊥
 DoesLine known run number before (Ok None) reply after = (reply ≡ None) × (after ≡ before)
 DoesLine known run number before (Err fault) reply after = (reply ≡ Some (Refused (Words fault))) × (after ≡ before)
@@ -74,7 +77,8 @@ pub record DoesNext (known : Type 0) (run : Run) (k : ℕ) (before now : Progres
   pub refused_is : now.refused ≡ (before.refused || is_refusal_if reply)
   pub changed_is : now.changed ≡ (before.changed || is_change_if reply)
 
-pub record Follows (earlier : Progress → Type 0) (DoesOne : Progress → Progress → Type 0) (now : Progress) : Type 0 where
+pub record Follows (earlier : Progress → Type 0) (DoesOne : Progress → Progress → Type 0)
+    (now : Progress) : Type 0 where
   pub before : Progress
   pub was : earlier before
   pub one : DoesOne before now

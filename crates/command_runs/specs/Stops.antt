@@ -19,7 +19,8 @@ pub record HasNextTable (known : Type 0) (run : Run) (k : ℕ) (progress : Progr
   pub table_is : HasTable run.platform next.state areas
 
 -- a part of the next reply was said, and not all of it: the table is that behind its line then
-pub record SaysPart (known : Type 0) (run : Run) (k : ℕ) (progress : Progress) (said : List ℕ) (c : CrashRecord) : Type 0 where
+pub record SaysPart (known : Type 0) (run : Run) (k : ℕ) (progress : Progress) (said : List ℕ)
+    (c : CrashRecord) : Type 0 where
   pub next : Progress
   pub does : DoesNext known run k progress next
   pub text : List ℕ
@@ -30,12 +31,13 @@ pub record SaysPart (known : Type 0) (run : Run) (k : ℕ) (progress : Progress)
   pub areas_are : IsFair c → HasTable run.platform next.state c.areas
 
 -- Nothing was said behind the replies, and the table is that behind their lines, or behind one more.
-pub record IsBetween (known : Type 0) (run : Run) (k : ℕ) (progress : Progress) (said : List ℕ) (c : CrashRecord) : Type 0 where
+pub record IsBetween (known : Type 0) (run : Run) (k : ℕ) (progress : Progress) (said : List ℕ)
+    (c : CrashRecord) : Type 0 where
   pub said_is : c.said ≡ said ++ progress.said
   pub areas_are : IsFair c → HasTable run.platform progress.state c.areas ⊎ HasNextTable known run k progress c.areas
 
--- A stop leaves the replies to the first lines, and of the next at most a part: so many are acknowledged. In a fair record
--- the areas stand for the table behind these lines, or behind one more.
+-- A stop leaves the replies to the first lines, and of the next at most a part: so many are acknowledged. In a fair
+-- record the areas stand for the table behind these lines, or behind one more.
 pub record IsLeft (known : Type 0) (run : Run) (said : List ℕ) (c : CrashRecord) : Type 0 where
   pub acknowledged : ℕ
   pub progress : Progress

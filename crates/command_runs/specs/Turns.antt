@@ -1,5 +1,6 @@
 -- One line on a session: what it is answered, what is said of it, and what a stop leaves.
-use Rattle.std.specs.Prelude.{◌≡◌, ◌⊎◌, ℕ, Bool, false, List, [], ◌++◌, take, map, Option, Some, IfOk, OnOk, Result, Ok, Err}
+use Rattle.std.specs.Prelude.{◌≡◌, ◌⊎◌, ℕ, Bool, false, List, [], ◌++◌, take, map, Option, Some, IfOk, OnOk, Result, Ok}
+use Rattle.std.specs.Prelude.{Err}
 use Rattle.rig_trait.specs.declared.shown.Shown.{Ghosts}
 use Rattle.rig_trait.specs.Areas.{Areas}
 use Rattle.rig_trait.specs.Frames.{GoesOn, IsTold, LeavesOnly, Reads, SaysNothing}
@@ -16,7 +17,8 @@ use Rattle.view_types.specs.declared.reply.Reply.{Reply}
 use Rattle.view_types.specs.declared.word_fault.WordFault.{WordFault}
 use Rattle.command_runs.specs.declared.faults.LineFault.{LineFault}
 use Rattle.command_runs.specs.declared.faults.LineFault.TheVariants.{Area, Memory, Say}
-use Rattle.command_runs.specs.Areas.{KeepsAreas, LeavesAreas, LeavesLabels, WritesNothing, changed_by_line, initialised_by_line}
+use Rattle.command_runs.specs.Areas.{KeepsAreas, LeavesAreas, LeavesLabels, WritesNothing, changed_by_line}
+use Rattle.command_runs.specs.Areas.{initialised_by_line}
 use Rattle.command_runs.specs.Ends.{run_of}
 use Rattle.command_runs.specs.Faults.{HasAreaFaults, HasCause, IsAmong, fails_at, is_area, is_say}
 use Rattle.command_runs.specs.Runs.{DoesLine, Run, is_change_if, is_refusal_if, text_if}
@@ -40,10 +42,12 @@ may_have_changed (Err fault) = is_area {T = Option Reply} (Err fault)
 
 -- A line does this on a session: it has this reply, and leaves this state.
 abbrev pub DoesOn : Type 0 → StoredSession → ℕ → ℕ → Result (Option Command) WordFault → Option Reply → State → Type 0
-DoesOn known session seed number line reply after = DoesLine known (around session seed) number (state_of session) line reply after
+DoesOn known session seed number line reply after =
+    DoesLine known (around session seed) number (state_of session) line reply after
 
 -- areas stand for the table behind a line
-pub record HasLineTable (known : Type 0) (session : StoredSession) (seed number : ℕ) (line : Result (Option Command) WordFault)
+pub record HasLineTable (known : Type 0) (session : StoredSession) (seed number : ℕ)
+    (line : Result (Option Command) WordFault)
     (areas : Areas) : Type 0 where
   pub reply : Option Reply
   pub after : State
@@ -51,14 +55,16 @@ pub record HasLineTable (known : Type 0) (session : StoredSession) (seed number 
   pub table_is : HasTable session.platform after areas
 
 -- what a stop leaves of a line before anything of its reply is said
-pub record LeftUnsaid (known : Type 0) (session : StoredSession) (seed number : ℕ) (line : Result (Option Command) WordFault)
+pub record LeftUnsaid (known : Type 0) (session : StoredSession) (seed number : ℕ)
+    (line : Result (Option Command) WordFault)
     (said : List ℕ) (c : CrashRecord) : Type 0 where
   pub said_is : c.said ≡ said
   pub areas_are : IsFair c
       → HasTable session.platform (state_of session) c.areas ⊎ HasLineTable known session seed number line c.areas
 
 -- what it leaves while the reply is said
-pub record LeftSaying (known : Type 0) (session : StoredSession) (seed number : ℕ) (line : Result (Option Command) WordFault)
+pub record LeftSaying (known : Type 0) (session : StoredSession) (seed number : ℕ)
+    (line : Result (Option Command) WordFault)
     (said : List ℕ) (c : CrashRecord) : Type 0 where
   pub reply : Option Reply
   pub after : State
@@ -134,7 +140,8 @@ pub record IsUndone {R : Type 0} (m : Ghosts R) (session : StoredSession) (old :
   pub kept : now ≡ session
   pub reads_only : Reads m old new
 
-abbrev pub TurnsTo : {R : Type 0} → Ghosts R → StoredSession → ℕ → ℕ → Result (Option Command) WordFault → R → StoredSession → R
+abbrev pub TurnsTo : {R : Type 0} → Ghosts R → StoredSession → ℕ → ℕ → Result (Option Command) WordFault → R
+    → StoredSession → R
     → Result Bool LineFault → Type 0
 TurnsTo m session seed number line old now new (Ok refused) = IsWhole m session seed number line old now new refused
 TurnsTo m session seed number line old now new (Err (Area dimm)) = IsBroken m session seed number line old new
@@ -143,7 +150,8 @@ TurnsTo m session seed number line old now new (Err Say) = IsCut m session seed 
 
 -- A line is done, and its reply said; or a fault ends it.
 pub record Turns {R : Type 0} (m : Ghosts R) (session : StoredSession) (seed number : ℕ)
-    (line : Result (Option Command) WordFault) (old : R) (now : StoredSession) (new : R) (result : Result Bool LineFault)
+    (line : Result (Option Command) WordFault) (old : R) (now : StoredSession) (new : R)
+    (result : Result Bool LineFault)
     : Type 0 where
   pub turns_to : TurnsTo m session seed number line old now new result
   pub any_moment : IsCurrent m old session

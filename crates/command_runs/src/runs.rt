@@ -17,8 +17,8 @@ use rig_trait::Rig;
 use sessions::Session;
 use std::alloc::Global;
 
-/// Does the command of each line, and says its reply before the next line is looked at. Lines are numbered from 1. A new
-/// namespace for which its command gives no uuid gets one that is made from the seed and the number of its line. It
+/// Does the command of each line, and says its reply before the next line is looked at. Lines are numbered from 1. A
+/// new namespace for which its command gives no uuid gets one that is made from the seed and the number of its line. It
 /// answers whether a reply was a refusal.
 ///
 /// The first fault ends the list. `Area` comes only where the rig failed at an area, and `Say` only where a reply could
@@ -33,8 +33,8 @@ pub fn run_lines<R: Rig>(
     requires unspent { session.old.spent ≡ false }
     requires sized { IsTold R.Shown rig.old → All (IsSizedIn (R.areas rig.old)) session.old.sets.modules }
 
-    // The replies and the state are those of the lines. What `init-labels` replies is promised where the areas are known
-    // to be those that are kept.
+    // The replies and the state are those of the lines. What `init-labels` replies is promised where the areas are
+    // known to be those that are kept.
     ensures ends { Ends R.Shown (IsCurrent R.Shown rig.old session.old)
         (run_of session.old seed (map (λ line. line.now) lines.now)) rig.old rig.new session.new result }
 

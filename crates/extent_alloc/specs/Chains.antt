@@ -11,7 +11,8 @@ abbrev pub links_from : List Node → ℕ → Option ℕ → List Link
 links_from nodes zero next = []
 links_from nodes (suc n) None = []
 links_from nodes (suc n) (Some at) =
-    unwrap_or (option_map (λ (node : Node). record { at = at; extent = node.extent } ∷ links_from nodes n node.after) (slice_get nodes at)) []
+    unwrap_or (option_map
+    (λ (node : Node). record { at = at; extent = node.extent } ∷ links_from nodes n node.after) (slice_get nodes at)) []
 
 -- the index of the first link
 abbrev pub first_at : List Link → Option ℕ

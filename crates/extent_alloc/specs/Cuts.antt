@@ -1,5 +1,6 @@
 -- The place among the links of a chain at which an offset stands.
-use Rattle.std.specs.Prelude.{◌≡◌, ℕ, ◌≤◌, ◌<◌, ◌+◌, List, [], ◌∷◌, ◌==◌, if◌then◌else◌, Option, None, Some, IfSome, length, slice_get}
+use Rattle.std.specs.Prelude.{◌≡◌, ℕ, ◌≤◌, ◌<◌, ◌+◌, List, [], ◌∷◌, ◌==◌, if◌then◌else◌, Option, None, Some, IfSome}
+use Rattle.std.specs.Prelude.{length, slice_get}
 use Rattle.view_types.specs.declared.extents.Extent.{Extent}
 use Rattle.view_types.specs.Intervals.{end_of}
 use Rattle.extent_alloc.specs.declared.pool.Link.{Link}
@@ -21,7 +22,8 @@ pub record IsCutAt (links : List Link) (offset : ℕ) (cut : Cut) : Type 0 where
   pub reached : IfSome (slice_get rest 0) (λ l. offset < end_of l.extent)
 
 -- on the way there, with one step for each link that was passed
-pub record IsPassing (links : List Link) (offset steps_before steps : ℕ) (before : Option Link) (next : Option ℕ) : Type 0 where
+pub record IsPassing (links : List Link) (offset steps_before steps : ℕ) (before : Option Link)
+    (next : Option ℕ) : Type 0 where
   pub done : List Link
   pub rest : List Link
   pub is : links ≡ unwind done rest
@@ -50,4 +52,5 @@ joined_ahead e (a ∷ es) = if a.start == end_of e then joined e a ∷ es else e
 
 abbrev pub joined_in : List Extent → Extent → List Extent → List Extent
 joined_in [] e rest = joined_ahead e rest
-joined_in (b ∷ done) e rest = unwind done (if end_of b == e.start then joined_ahead (joined b e) rest else b ∷ joined_ahead e rest)
+joined_in (b ∷ done) e rest =
+    unwind done (if end_of b == e.start then joined_ahead (joined b e) rest else b ∷ joined_ahead e rest)

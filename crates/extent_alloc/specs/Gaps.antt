@@ -9,8 +9,8 @@ use Rattle.extent_alloc.specs.Free.{is_outside, is_taken}
 abbrev pub end_in_64_bits : Extent → ℕ
 end_in_64_bits range = min (end_of range) (2 ^ 64 - 1)
 
--- the extents are the offsets from `end` on that are outside the ranges, and of the offsets below it the ranges that are
--- left, by ascending end, have those that all ranges have
+-- the extents are the offsets from `end` on that are outside the ranges, and of the offsets below it the ranges that
+-- are left, by ascending end, have those that all ranges have
 pub record AreFoundFrom (end whole : ℕ) (ranges left : List Extent) (es : List Extent) : Type 0 where
   pub inside : end ≤ whole
   pub sorted : IsNonDecreasingBy end_in_64_bits left

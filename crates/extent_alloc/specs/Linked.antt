@@ -10,7 +10,8 @@ use Rattle.extent_alloc.specs.Chain.{Links}
 abbrev pub AreLinked : List Node → Option ℕ → List Link → Type 0
 AreLinked nodes before [] = Unit {0}
 AreLinked nodes before (l ∷ ls) =
-    (slice_get nodes l.at ≡ Some (record { extent = l.extent; before = before; after = first_at ls })) × AreLinked nodes (Some l.at) ls
+    (slice_get nodes l.at ≡ Some (record { extent = l.extent; before = before; after = first_at ls }))
+    × AreLinked nodes (Some l.at) ls
 
 abbrev pub links_in : Inside → List Link
 links_in chain = links_from chain.pool.nodes chain.len chain.first

@@ -15,7 +15,8 @@
 --         62      2  Minor
 --         64      8  Checksum   of the MySize bytes, with this field as zero
 --         72         Free       a bit for each slot, 1 where it is free; then bytes that are not looked at
-use Rattle.std.specs.Prelude.{ℕ, ◌%◌, ◌==◌, ◌&&◌, Bool, List, [], ◌∷◌, ◌++◌, length, drop, take, codes, if◌then◌else◌, nat_eq, nat_le, not, slice_index}
+use Rattle.std.specs.Prelude.{ℕ, ◌%◌, ◌==◌, ◌&&◌, Bool, List, [], ◌∷◌, ◌++◌, length, drop, take, codes, if◌then◌else◌}
+use Rattle.std.specs.Prelude.{nat_eq, nat_le, not, slice_index}
 use Rattle.std.specs.List.{starts_with}
 use Rattle.byte_ranges.specs.Ranges.{range, number_at}
 use Rattle.fletcher64.specs.Sums.{has_checksum}
@@ -24,7 +25,8 @@ use Rattle.index_block.specs.declared.geometry.Place.{Place}
 use Rattle.index_block.specs.declared.blocks.BlockKind.{BlockKind}
 use Rattle.index_block.specs.declared.blocks.BlockKind.TheVariants.{Unsigned, Foreign, Usable}
 use Rattle.index_block.specs.Current.{IsSeq}
-use Rattle.index_block.specs.Geometry.{bitmap_at, bitmap_len, old_label_bytes, place_offset, other_place, size_unit, slot_offset}
+use Rattle.index_block.specs.Geometry.{bitmap_at, bitmap_len, old_label_bytes, place_offset, other_place, size_unit}
+use Rattle.index_block.specs.Geometry.{slot_offset}
 
 abbrev pub signature : List ℕ
 signature = codes "NAMESPACE_INDEX" ++ 0 ∷ []
@@ -38,7 +40,8 @@ seq_of window = number_at 4 window 20 % 4
 
 -- the size that a block tells is one that a block can have, and the window holds it
 abbrev pub has_size : List ℕ → Bool
-has_size window = (my_size window % size_unit == 0) && nat_le size_unit (my_size window) && nat_le (my_size window) (length window)
+has_size window = (my_size window % size_unit == 0) && nat_le size_unit (my_size window)
+    && nat_le (my_size window) (length window)
 
 -- the block's own bytes
 abbrev pub block_in : List ℕ → List ℕ

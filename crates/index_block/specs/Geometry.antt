@@ -5,12 +5,14 @@
 --     +-----------+-----------+---------+-----------+---- .. ----+--------+
 --     | block 0   | block 1   | slot 0  | slot 1    |            | unused |
 --     +-----------+-----------+---------+-----------+---- .. ----+--------+
-use Rattle.std.specs.Prelude.{◌≡◌, ◌≤◌, ℕ, ◌+◌, ◌-◌, ◌*◌, ◌/◌, ◌%◌, ◌==◌, ◌&&◌, ◌||◌, Bool, Option, Some, None, if◌then◌else◌, nat_le}
+use Rattle.std.specs.Prelude.{◌≡◌, ◌≤◌, ℕ, ◌+◌, ◌-◌, ◌*◌, ◌/◌, ◌%◌, ◌==◌, ◌&&◌, ◌||◌, Bool, Option, Some, None}
+use Rattle.std.specs.Prelude.{if◌then◌else◌, nat_le}
 use Rattle.index_block.specs.declared.geometry.Geometry.{Geometry}
 use Rattle.index_block.specs.declared.geometry.Place.{Place}
 use Rattle.index_block.specs.declared.geometry.Place.TheVariants.{First, Second}
 
--- the least and the greatest size of an area, and what the sizes of areas and of index blocks are multiples of, in bytes
+-- the least and the greatest size of an area, and what the sizes of areas and of index blocks are multiples of, in
+-- bytes
 abbrev pub least_area : ℕ
 least_area = 1024
 
@@ -64,8 +66,8 @@ geometry_of size label = if is_accepted size && is_label_size label
     then Some (record { label = label; block = block_size size label; slots = slot_count size label })
     else None
 
--- In an area of this size a block is the least multiple of 256 with room for the fields and the bits; the blocks and the
--- slots lie inside the area; the bitmap has a bit for each slot; and a window holds a block.
+-- In an area of this size a block is the least multiple of 256 with room for the fields and the bits; the blocks and
+-- the slots lie inside the area; the bitmap has a bit for each slot; and a window holds a block.
 pub record FitsIn (size : ℕ) (g : Geometry) : Type 0 where
   pub aligned : g.block % size_unit ≡ 0
   pub room : bitmap_at + bitmap_len (size / g.label) ≤ g.block

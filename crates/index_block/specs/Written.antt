@@ -1,5 +1,5 @@
--- The bytes of an index block that is written (UEFI 2.7, section 13.19): the fields, as `Blocks` places them, then a bit
--- for each slot, and zeros.
+-- The bytes of an index block that is written (UEFI 2.7, section 13.19): the fields, as `Blocks` places them, then a
+-- bit for each slot, and zeros.
 use Rattle.std.specs.Prelude.{ℕ, ◌+◌, ◌-◌, ◌/◌, ◌%◌, ◌^◌, List, [], ◌∷◌, ◌++◌, replicate, take, slice_index}
 use Rattle.byteorder.specs.Endian.{little_bytes}
 use Rattle.fletcher64.specs.Sums.{with_checksum}

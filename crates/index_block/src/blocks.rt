@@ -2,7 +2,8 @@
 
 ghost use Rattle.std.specs.Prelude.{◌≡◌, ◌%◌, ◌≤◌, length, IsTrue, IfSome};
 ghost use Rattle.index_block.specs.Geometry.{IsGeometry, size_unit, window_bytes};
-ghost use Rattle.index_block.specs.Blocks.{kind_of, IsNumbered, is_signed, has_size, is_sound, has_fields, has_offsets, has_labels, label_size_of, minor_of};
+ghost use Rattle.index_block.specs.Blocks.{kind_of, IsNumbered, is_signed, has_size, is_sound, has_fields, has_offsets};
+ghost use Rattle.index_block.specs.Blocks.{has_labels, label_size_of, minor_of};
 ghost use Rattle.index_block.specs.Current.{current_place, is_followed_by, IsSeq};
 
 use crate::geometry::{Geometry, OLD_LABEL_BYTES, Place, SIZE_UNIT};

@@ -1,5 +1,5 @@
--- The writes of a flip (UEFI 2.7, section 13.19): a label into a free slot, where one is put, and then the index block at
--- the place that isn't current.
+-- The writes of a flip (UEFI 2.7, section 13.19): a label into a free slot, where one is put, and then the index block
+-- at the place that isn't current.
 use Rattle.std.specs.Prelude.{◌≡◌, ℕ, ◌<◌, if◌then◌else◌, None, length, Result, IsTrue, OnErr, OnOk}
 use Rattle.std.specs.FinMap.{get}
 use Rattle.rig_trait.specs.declared.rig.Failed.{Failed}
@@ -41,7 +41,8 @@ pub record IsKeptAfter (area : LoadedArea) (next : Next) (after : Standing) (kep
 
 -- The writes of a flip of an area: what a stop leaves at any moment of them, what is left where one failed, and what is
 -- stored at Ok.
-pub record Flips {R T : Type 0} (m : Ghosts R) (old new : R) (area : LoadedArea) (next : Next) (after : Standing) (result : Result T Failed) : Type 0 where
+pub record Flips {R T : Type 0} (m : Ghosts R) (old new : R) (area : LoadedArea) (next : Next) (after : Standing)
+    (result : Result T Failed) : Type 0 where
   pub any_moment : LeavesOnly m old new (LeftByFlip (m.areas old) (m.said old) area.dimm after)
   pub failed : OnErr result (FailedFlip (m.areas old) (m.areas new) (m.said old) area.dimm after)
   pub shown : OnOk result ((kept : LoadedArea) → IsKeptAfter area next after kept → IsShown kept (m.areas new))

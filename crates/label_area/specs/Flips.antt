@@ -1,6 +1,7 @@
--- What a flip makes of an area (UEFI 2.7, section 13.19): slots are freed, and a label is put into the least free slot, or
--- none is. The other index block then tells so, with the next sequence number.
-use Rattle.std.specs.Prelude.{◌≡◌, ◌⊎◌, ℕ, ◌<◌, ◌==◌, ◌&&◌, ◌||◌, Bool, false, not, List, [], ◌∷◌, find, Option, Some, None, if◌then◌else◌, unwrap_or}
+-- What a flip makes of an area (UEFI 2.7, section 13.19): slots are freed, and a label is put into the least free slot,
+-- or none is. The other index block then tells so, with the next sequence number.
+use Rattle.std.specs.Prelude.{◌≡◌, ◌⊎◌, ℕ, ◌<◌, ◌==◌, ◌&&◌, ◌||◌, Bool, false, not, List, [], ◌∷◌, find, Option, Some}
+use Rattle.std.specs.Prelude.{None, if◌then◌else◌, unwrap_or}
 use Rattle.std.specs.FinMap.{get}
 use Rattle.std.specs.List.{range_with_len, list_any}
 use Rattle.std.specs.Option.{option_map_or}
@@ -33,7 +34,8 @@ standing_at areas dimm = standing_of (get areas dimm)
 
 -- what an area that was loaded stands for
 abbrev pub shown_by : LoadedArea → Standing
-shown_by area = record { labels = record { kind = Ready; slots = area.geometry.slots; at = get area.live }; used = is_used area }
+shown_by area =
+    record { labels = record { kind = Ready; slots = area.geometry.slots; at = get area.live }; used = is_used area }
 
 -- the module has an area of this size
 abbrev pub IsSized : LoadedArea → Areas → Type 0
@@ -53,7 +55,11 @@ is_among slots k = list_any (λ slot. k == slot) slots
 -- after these slots are freed
 abbrev pub after_free : LoadedArea → List ℕ → Standing
 after_free area slots = record {
-  labels = record { kind = Ready; slots = area.geometry.slots; at = λ k. if is_among slots k then None else get area.live k };
+  labels = record {
+    kind = Ready;
+    slots = area.geometry.slots;
+    at = λ k. if is_among slots k then None else get area.live k;
+  };
   used = λ k. not (is_among slots k) && is_used area k;
 }
 
@@ -64,7 +70,11 @@ at_slot slot label = record label { slot = slot }
 -- after a label is put into a slot
 abbrev pub with_label : ℕ → Label → Standing → Standing
 with_label slot label standing = record {
-  labels = record { kind = standing.labels.kind; slots = standing.labels.slots; at = λ k. if k == slot then Some (at_slot slot label) else standing.labels.at k };
+  labels = record {
+    kind = standing.labels.kind;
+    slots = standing.labels.slots;
+    at = λ k. if k == slot then Some (at_slot slot label) else standing.labels.at k;
+  };
   used = λ k. (k == slot) || standing.used k;
 }
 
@@ -79,7 +89,8 @@ after_put area label replaces = with_label (first_slot area) label (after_free a
 
 -- the area of one module stands for what it did before, or for what it does after a flip
 abbrev pub IsBeforeOrAfter : Areas → Areas → ℕ → Standing → Type 0
-IsBeforeOrAfter before now dimm after = (standing_at now dimm ≡ standing_at before dimm) ⊎ (standing_at now dimm ≡ after)
+IsBeforeOrAfter before now dimm after = (standing_at now dimm ≡ standing_at before dimm)
+    ⊎ (standing_at now dimm ≡ after)
 
 -- What a stop leaves at any moment of a flip of one module: the area as it stood before, or as it stands after.
 pub record LeftByFlip (areas : Areas) (said : List ℕ) (dimm : ℕ) (after : Standing) (c : CrashRecord) : Type 0 where
@@ -87,8 +98,9 @@ pub record LeftByFlip (areas : Areas) (said : List ℕ) (dimm : ℕ) (after : St
   pub others : OthersKept dimm areas c.areas
   pub flip : IsFair c → IsBeforeOrAfter areas c.areas dimm after
 
--- What is left of a flip that failed, also in a rig that tells no records: its last write is torn. Before that write the
--- area stood for what it did before the flip, and behind it, it would stand for that or for what it does after the flip.
+-- What is left of a flip that failed, also in a rig that tells no records: its last write is torn. Before that write
+-- the area stood for what it did before the flip, and behind it, it would stand for that or for what it does after the
+-- flip.
 pub record FailedFlip (areas now : Areas) (said : List ℕ) (dimm : ℕ) (after : Standing) : Type 0 where
   pub mid : Areas
   pub at : ℕ

@@ -51,4 +51,5 @@ pub record IsKept (area : Inside) : Type 0 where
   pub bits : length area.free.items ≡ bitmap_len area.geometry.slots
   pub long : length area.labels.items ≡ area.geometry.slots
   -- a slot with a label is in use
-  pub in_use : (slot : ℕ) → IsSome (slice_index_or area.labels.items slot None) → IsTrue (is_in_use area.free.items area.geometry.slots slot)
+  pub in_use : (slot : ℕ) → IsSome (slice_index_or area.labels.items slot None)
+      → IsTrue (is_in_use area.free.items area.geometry.slots slot)

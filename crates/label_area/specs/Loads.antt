@@ -17,7 +17,8 @@ pub record IsShown (area : LoadedArea) (areas : Areas) : Type 0 where
   pub is_area : get areas area.dimm ≡ Some bytes
   pub size_is : length bytes ≡ size_of area
   pub current_is : current_block (Some bytes) ≡ Some (block_of area)
-  pub free_is : (slot : ℕ) → slot < area.geometry.slots → is_free_in area.free slot ≡ is_free_in (free_bits (block_of area) bytes) slot
+  pub free_is : (slot : ℕ) → slot < area.geometry.slots
+      → is_free_in area.free slot ≡ is_free_in (free_bits (block_of area) bytes) slot
   pub module_is : module_at areas area.dimm ≡ record { kind = Ready; slots = area.geometry.slots; at = get area.live }
 
 -- What a fault tells of an area holds of it: its kind, and its size where it has one.

@@ -1,6 +1,7 @@
 //! How an area is changed: by flips.
 
-ghost use Rattle.std.specs.Prelude.{◌≡◌, ◌*◌, ◌<◌, ◌≤◌, ◌==◌, ◌||◌, ℕ, None, Some, false, if◌then◌else◌, length, slice_index_or, IfOk, IfSome, IsSome, IsTrue, OnErr, OnOk};
+ghost use Rattle.std.specs.Prelude.{◌≡◌, ◌*◌, ◌<◌, ◌≤◌, ◌==◌, ◌||◌, ℕ, None, Some, false, if◌then◌else◌, length};
+ghost use Rattle.std.specs.Prelude.{slice_index_or, IfOk, IfSome, IsSome, IsTrue, OnErr, OnOk};
 ghost use Rattle.std.specs.List.{All};
 ghost use Rattle.std.specs.Result.{is_err};
 ghost use Rattle.index_block.specs.Bitmap.{IsFirstFree, is_free_in};
@@ -8,7 +9,8 @@ ghost use Rattle.index_block.specs.Geometry.{bitmap_len};
 ghost use Rattle.rig_trait.specs.Frames.{FailsAt, IsTold, LeavesOnly, WritesTo};
 ghost use Rattle.label_codec.specs.declared.label.Label.{Label};
 ghost use Rattle.label_area.specs.FlipWrites.{IsNext, with_bits};
-ghost use Rattle.label_area.specs.Flips.{FailedFlip, HasFree, IsSized, LeftByFlip, after_free, after_put, first_slot, is_among, replaced, shown_by, with_label};
+ghost use Rattle.label_area.specs.Flips.{FailedFlip, HasFree, IsSized, LeftByFlip, after_free, after_put, first_slot};
+ghost use Rattle.label_area.specs.Flips.{is_among, replaced, shown_by, with_label};
 ghost use Rattle.label_area.specs.Loads.{IsShown};
 ghost use Rattle.label_area.specs.LoadedAreas.{IsSound, is_used};
 ghost use Rattle.label_area.specs.Slots.{bitmap_bytes};

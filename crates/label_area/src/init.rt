@@ -11,7 +11,8 @@ ghost use Rattle.rig_trait.specs.TwoWrites.{LeftByTwo};
 ghost use Rattle.label_area.specs.declared.init.InitFault.TheVariants.{Failed};
 ghost use Rattle.label_area.specs.Blocks.{kind_at, kinds_in};
 ghost use Rattle.label_area.specs.Faults.{init_kind, is_init_failed};
-ghost use Rattle.label_area.specs.Inits.{Initialises, IsInOrder, IsRefused, IsVacant, LeftByInit, first_block, initialised, layout_of, second_block, with_blocks};
+ghost use Rattle.label_area.specs.Inits.{Initialises, IsInOrder, IsRefused, IsVacant, LeftByInit, first_block};
+ghost use Rattle.label_area.specs.Inits.{initialised, layout_of, second_block, with_blocks};
 ghost use Rattle.label_area.specs.Layouts.{AreLayouts};
 ghost use Rattle.label_area.specs.Modules.{area_kind};
 

@@ -11,12 +11,15 @@
 --        104      8  Dpa, in bytes                   248      8  Checksum, with this field as zero
 --
 -- The reserved bytes count in the checksum alone.
-use Rattle.std.specs.Prelude.{◌≡◌, ◌<◌, ◌^◌, ℕ, ◌==◌, ◌&&◌, Bool, List, [], ◌∷◌, ◌++◌, Option, Some, None, if◌then◌else◌, length, replicate, slice_index}
+use Rattle.std.specs.Prelude.{◌≡◌, ◌<◌, ◌^◌, ℕ, ◌==◌, ◌&&◌, Bool, List, [], ◌∷◌, ◌++◌, Option, Some, None}
+use Rattle.std.specs.Prelude.{if◌then◌else◌, length, replicate, slice_index}
 use Rattle.byteorder.specs.Endian.{little_bytes}
 use Rattle.byte_ranges.specs.Ranges.{range, number_at, with_fields}
 use Rattle.fletcher64.specs.Sums.{has_checksum, with_checksum}
 use Rattle.label_codec.specs.declared.label.Label.{Label}
-use Rattle.label_codec.specs.Offsets.{abstraction_at, alignment_at, cookie_at, dpa_at, flags_at, label_checksum_at, lba_size_at, name_at, nlabel_at, position_at, raw_size_at, slot_at, type_guid_at, uuid_at}
+use Rattle.label_codec.specs.Offsets.{abstraction_at, alignment_at, cookie_at, dpa_at, flags_at, label_checksum_at}
+use Rattle.label_codec.specs.Offsets.{lba_size_at, name_at, nlabel_at, position_at, raw_size_at, slot_at, type_guid_at}
+use Rattle.label_codec.specs.Offsets.{uuid_at}
 
 -- the bytes of a label
 abbrev pub label_len : ℕ

@@ -1,5 +1,6 @@
 -- How a name is printed: as one word of visible ASCII characters.
-use Rattle.std.specs.Prelude.{ℕ, ◌/◌, ◌%◌, ◌==◌, ◌&&◌, ◌||◌, Bool, List, [], ◌∷◌, codes, if◌then◌else◌, length, nat_le, not, slice_index}
+use Rattle.std.specs.Prelude.{ℕ, ◌/◌, ◌%◌, ◌==◌, ◌&&◌, ◌||◌, Bool, List, [], ◌∷◌, codes, if◌then◌else◌, length, nat_le}
+use Rattle.std.specs.Prelude.{not, slice_index}
 use Rattle.std.specs.List.{before_first, flat_map}
 
 -- a name ends at its first zero byte

@@ -2,7 +2,8 @@
 
 ghost use Rattle.std.specs.Prelude.{◌≡◌, length, IfSome, Some};
 ghost use Rattle.byte_ranges.specs.Ranges.{with_fields};
-ghost use Rattle.label_codec.specs.Labels.{fields_of, FitsNamespaceFields, FitsPartFields, HasZerosReserved, is_label, label_len, label_of, label_text, namespace_fields, part_fields};
+ghost use Rattle.label_codec.specs.Labels.{fields_of, FitsNamespaceFields, FitsPartFields, HasZerosReserved, is_label};
+ghost use Rattle.label_codec.specs.Labels.{label_len, label_of, label_text, namespace_fields, part_fields};
 
 use byte_ranges::{array_at, put, put_u16, put_u32, put_u64, u16_at, u32_at, u64_at};
 use fletcher64::{has_checksum, put_checksum};

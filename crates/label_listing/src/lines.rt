@@ -2,7 +2,8 @@
 
 ghost use Rattle.std.specs.Prelude.{◌≡◌, ◌++◌, ◌≤◌, IfOk, OnOk, string_bytes};
 ghost use Rattle.label_codec.specs.Names.{printed_name};
-ghost use Rattle.label_listing.specs.Listing.{extent_part, identity_part, label_line, last_line, loaded_listing, place_number, set_part};
+ghost use Rattle.label_listing.specs.Listing.{extent_part, identity_part, label_line, last_line, loaded_listing};
+ghost use Rattle.label_listing.specs.Listing.{place_number, set_part};
 
 use index_block::Place;
 use label_area::Area;

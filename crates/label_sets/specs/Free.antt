@@ -27,12 +27,15 @@ pub record GainsRange (start len : ℕ) (before after : FreeSpace) : Type 0 wher
   pub whole : after.whole ≡ before.whole
 
 -- that of the region at a place changes so, and all others are as before
-pub record ChangesAt (place : ℕ) (Change : FreeSpace → FreeSpace → Type 0) (before after : List FreeSpace) : Type 0 where
+pub record ChangesAt (place : ℕ) (Change : FreeSpace → FreeSpace → Type 0)
+    (before after : List FreeSpace) : Type 0 where
   pub each : length after ≡ length before
   pub here : (e : FreeSpace) → Change (slice_index_or before place e) (slice_index_or after place e)
-  pub others : (other : ℕ) (e : FreeSpace) → other ≢ place → slice_index_or after other e ≡ slice_index_or before other e
+  pub others : (other : ℕ) (e : FreeSpace) → other ≢ place
+      → slice_index_or after other e ≡ slice_index_or before other e
 
 -- so it is where they are known before and after: what is not known stays so
-abbrev pub ChangesKnown : ℕ → (FreeSpace → FreeSpace → Type 0) → Option (List FreeSpace) → Option (List FreeSpace) → Type 0
+abbrev pub ChangesKnown : ℕ → (FreeSpace → FreeSpace → Type 0) → Option (List FreeSpace) → Option (List FreeSpace)
+    → Type 0
 ChangesKnown place Change None after = after ≡ None
 ChangesKnown place Change (Some before) after = IfSome after (ChangesAt place Change before)

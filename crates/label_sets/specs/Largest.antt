@@ -14,7 +14,9 @@ IsLargestOf platform labels None None = Unit {0}
 IsLargestOf platform labels None (Some size) = ⊥
 IsLargestOf platform labels (Some region) None = ⊥
 IsLargestOf platform labels (Some region) (Some size) =
-    (extents : List Extent) → AreFreeExtents platform labels region extents → size ≡ min (largest region extents) (2 ^ 64 - 1)
+    (extents : List Extent) → AreFreeExtents platform labels region extents
+    → size ≡ min (largest region extents) (2 ^ 64 - 1)
 
 abbrev pub TellsLargest : StoredSets → ℕ → Option ℕ → Type 0
-TellsLargest sets index found = IsLargestOf (platform_in sets) (labels_in sets) (region_at (platform_in sets) index) found
+TellsLargest sets index found =
+    IsLargestOf (platform_in sets) (labels_in sets) (region_at (platform_in sets) index) found

@@ -107,8 +107,8 @@ impl FreeExtents {
         }
     }
 
-    /// Gives a range back to the free extents of the region at a place, where they are known and have room for one more.
-    /// Else they are not known from then on. It takes no memory.
+    /// Gives a range back to the free extents of the region at a place, where they are known and have room for one
+    /// more. Else they are not known from then on. It takes no memory.
     pub(crate) fn give_back(&mut self, place: usize, start: u64, len: u64)
         requires some { 0 < len }
         requires within { IfSome self.old (λ spaces. place < length spaces) }

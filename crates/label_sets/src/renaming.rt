@@ -25,11 +25,11 @@ impl Sets {
     ghost use Rattle.label_sets.specs.Healing.{CanHealIn};
     ghost use Rattle.label_sets.specs.Renaming.{IsRenamedIn};
 
-    /// Gives the label of position 0 of a namespace another name, and marks it as being changed, by one flip. The region
-    /// is Ready, and the namespace is not read-only. From then on it has the name, and is pending: `clear_all` ends the
-    /// rename. It needs the platform whose state this is, and takes no memory. A stop at any moment leaves areas that
-    /// stand for the state before, or for that with the name. `Err` where the rig failed: what is kept is as before
-    /// then.
+    /// Gives the label of position 0 of a namespace another name, and marks it as being changed, by one flip. The
+    /// region is Ready, and the namespace is not read-only. From then on it has the name, and is pending: `clear_all`
+    /// ends the rename. It needs the platform whose state this is, and takes no memory. A stop at any moment leaves
+    /// areas that stand for the state before, or for that with the name. `Err` where the rig failed: what is kept is as
+    /// before then.
     pub fn change_first<R: Rig>(
         &mut self,
         rig: &mut R,

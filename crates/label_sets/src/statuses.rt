@@ -34,8 +34,8 @@ impl Sets {
         Ok(Some(status))
     }
 
-    /// The status of a region, as `status` tells it. If it is Ready that is kept, for the calls behind it: the passes that
-    /// may change it forget it.
+    /// The status of a region, as `status` tells it. If it is Ready that is kept, for the calls behind it: the passes
+    /// that may change it forget it.
     pub fn learn_status(&mut self, alloc: Global, index: u16) -> Result<Option<Status>, AllocError>
         ensures same { self.new ≡ self.old }
         ensures status { IfOk result (λ told. told

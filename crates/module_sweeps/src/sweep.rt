@@ -21,10 +21,10 @@ use region_changes::SlotLabel;
 use region_sets::{LoadedModule, RegionLabels};
 use rig_trait::Rig;
 
-/// Frees the junk and the dead labels of the module at a seat, whose area is Ready, by one flip, or by none where it has
-/// neither. `slots` and `lost` have the memory for all slots of a module, so it takes none. A stop at any moment leaves
-/// areas that stand for the same state. `Err` where the rig failed, with the module's handle: modules and regions are
-/// as before then.
+/// Frees the junk and the dead labels of the module at a seat, whose area is Ready, by one flip, or by none where it
+/// has neither. `slots` and `lost` have the memory for all slots of a module, so it takes none. A stop at any moment
+/// leaves areas that stand for the same state. `Err` where the rig failed, with the module's handle: modules and
+/// regions are as before then.
 pub fn sweep_labels<R: Rig>(
     rig: &mut R,
     modules: &mut [LoadedModule],

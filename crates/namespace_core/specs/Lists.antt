@@ -1,5 +1,5 @@
--- The commands that list the state of the label storage areas: why each is refused, in order, and its reply where nothing
--- refuses it.
+-- The commands that list the state of the label storage areas: why each is refused, in order, and its reply where
+-- nothing refuses it.
 use Rattle.std.specs.Prelude.{◌≡◌, ℕ, ◌^◌, ◌-◌, List, [], ◌∷◌, ◌++◌, Option, Some, None, length, map, min}
 use Rattle.std.specs.List.Sorted.{IsPermutation, IsSortedByKey}
 use Rattle.view_types.specs.declared.extents.Extent.{Extent}
@@ -154,7 +154,8 @@ pub record IsHeldOf (platform : Platform) (labels : Labels) (dimm : ℕ) (reply 
 
 abbrev pub IsHeld : Platform → Labels → ℕ → Reply → Type 0
 IsHeld platform labels dimm reply =
-    IsReplyBy (first_of (unknown_dimm platform dimm ∷ area_not_ready labels dimm ∷ [])) (IsHeldOf platform labels dimm) reply
+    IsReplyBy (first_of (unknown_dimm platform dimm ∷ area_not_ready labels dimm ∷ []))
+    (IsHeldOf platform labels dimm) reply
 
 -- the reply to what is asked of the state
 abbrev pub IsShown : Platform → Labels → Query → Reply → Type 0

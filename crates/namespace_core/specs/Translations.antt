@@ -38,7 +38,8 @@ range_outside platform index spa len =
 -- the module is none of its members
 abbrev pub not_in_region : Platform → ℕ → ℕ → Option Refusal
 not_in_region platform index dimm =
-    by_region platform index (λ region. refused_if (not (is_member (woven_of platform.tables region) dimm)) (NotInRegion dimm))
+    by_region platform index (λ region. refused_if (not (is_member (woven_of platform.tables region) dimm))
+    (NotInRegion dimm))
 
 -- the module address is one of the member's part
 abbrev pub is_of_part : ℕ → ℕ → Strand → Bool
@@ -46,11 +47,13 @@ is_of_part dimm dpa strand = (strand.handle == dimm) && is_within strand.base st
 
 abbrev pub part_outside : Platform → ℕ → ℕ → ℕ → Option Refusal
 part_outside platform index dimm dpa =
-    by_region platform index (λ region. refused_if (not (list_any (is_of_part dimm dpa) (woven_of platform.tables region).strands)) Outside)
+    by_region platform index
+    (λ region. refused_if (not (list_any (is_of_part dimm dpa) (woven_of platform.tables region).strands)) Outside)
 
 -- what each command asks of its region first
 abbrev pub untranslated : Platform → ℕ → List (Option Refusal) → List (Option Refusal)
-untranslated platform index more = unknown_region platform index ∷ unusable platform index ∷ no_translation platform index ∷ more
+untranslated platform index more = unknown_region platform index ∷ unusable platform index
+    ∷ no_translation platform index ∷ more
 
 -- The weave of a region that can be used, and whose addresses can be translated.
 pub record IsWoven (platform : Platform) (index : ℕ) (weave : Woven) : Type 0 where
@@ -76,7 +79,8 @@ pub record IsModuleOf (platform : Platform) (index spa : ℕ) (reply : Reply) : 
 
 abbrev pub IsToModule : Platform → ℕ → ℕ → Reply → Type 0
 IsToModule platform index spa reply =
-    IsReplyBy (first_of (untranslated platform index (outside platform index spa ∷ []))) (IsModuleOf platform index spa) reply
+    IsReplyBy (first_of (untranslated platform index (outside platform index spa ∷ [])))
+    (IsModuleOf platform index spa) reply
 
 -- The address of a byte of a member's part.
 pub record IsSpaOf (platform : Platform) (index dimm dpa : ℕ) (reply : Reply) : Type 0 where
@@ -88,7 +92,9 @@ pub record IsSpaOf (platform : Platform) (index dimm dpa : ℕ) (reply : Reply) 
 
 abbrev pub IsToSpa : Platform → ℕ → ℕ → ℕ → Reply → Type 0
 IsToSpa platform index dimm dpa reply =
-    IsReplyBy (first_of (untranslated platform index (not_in_region platform index dimm ∷ part_outside platform index dimm dpa ∷ [])))
+    IsReplyBy
+    (first_of (untranslated platform index
+    (not_in_region platform index dimm ∷ part_outside platform index dimm dpa ∷ [])))
     (IsSpaOf platform index dimm dpa) reply
 
 -- The runs of module addresses behind a range of the region.
@@ -101,4 +107,5 @@ pub record AreRunsOf (platform : Platform) (index spa len : ℕ) (reply : Reply)
 
 abbrev pub AreToRuns : Platform → ℕ → ℕ → ℕ → Reply → Type 0
 AreToRuns platform index spa len reply =
-    IsReplyBy (first_of (untranslated platform index (range_outside platform index spa len ∷ []))) (AreRunsOf platform index spa len) reply
+    IsReplyBy (first_of (untranslated platform index (range_outside platform index spa len ∷ [])))
+    (AreRunsOf platform index spa len) reply

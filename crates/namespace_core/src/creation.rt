@@ -15,7 +15,8 @@ ghost use Rattle.recovery.specs.Recovery.{IsRecovered};
 ghost use Rattle.table_steps.specs.Changes.{least_spare};
 ghost use Rattle.table_steps.specs.Create.{Creates, IsCreated};
 ghost use Rattle.namespace_core.specs.Create.{CanPutIn, HasChangeCause, IsBeforeOrAfter, IsCreateRefusal, IsNewSpace};
-ghost use Rattle.namespace_core.specs.Create.{IsPutIn, IsStepOf, IsTableOf, IsTableOrWith, WhereMemory, WhereRefused, modules_of};
+ghost use Rattle.namespace_core.specs.Create.{IsPutIn, IsStepOf, IsTableOf, IsTableOrWith, WhereMemory, WhereRefused};
+ghost use Rattle.namespace_core.specs.Create.{modules_of};
 ghost use Rattle.namespace_core.specs.Lists.{IsStateOf};
 
 use crate::create_refusals::create_refusal;

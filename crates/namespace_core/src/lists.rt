@@ -5,7 +5,9 @@ ghost use Rattle.label_sets.specs.Sets.{labels_in};
 ghost use Rattle.label_table.specs.Statuses.{status};
 ghost use Rattle.region_map.specs.Platforms.{IsSound, region_at};
 ghost use Rattle.table_steps.specs.Refusals.{first_of};
-ghost use Rattle.namespace_core.specs.Lists.{AreRegions, AreSpaces, IsFree, IsHeld, IsReadyView, IsShown, IsStateOf, IsUnread, listed_in_view, refusal_by, refusal_of, shown_region, spaces_by, spaces_of, spaces_of_all, unread};
+ghost use Rattle.namespace_core.specs.Lists.{AreRegions, AreSpaces, IsFree, IsHeld, IsReadyView, IsShown, IsStateOf};
+ghost use Rattle.namespace_core.specs.Lists.{IsUnread, listed_in_view, refusal_by, refusal_of, shown_region, spaces_by};
+ghost use Rattle.namespace_core.specs.Lists.{spaces_of, spaces_of_all, unread};
 
 use crate::refusals::Unanswered;
 use label_sets::Sets;

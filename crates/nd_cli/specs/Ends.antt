@@ -54,22 +54,26 @@ pub record HasLines {I : Type 0} (i : sources.Ghosts I) (input_old input_new : I
 -- One line is done.
 pub data EndsLine {R N : Type 0} (m : rigs.Ghosts R) (n : sources.Ghosts N) (seed : ℕ) (line : List ℕ) (old new : R)
     (nfit_old nfit_new : N) (status : ℕ) : Type 0 where
-  line_without : HasNoPlatform m n old new nfit_old nfit_new status → EndsLine m n seed line old new nfit_old nfit_new status
+  line_without : HasNoPlatform m n old new nfit_old nfit_new status
+      → EndsLine m n seed line old new nfit_old nfit_new status
   line_on : (platform : Platform) → HasPlatform n nfit_old nfit_new platform
       → EndsOn m seed platform (line ∷ []) old new status → EndsLine m n seed line old new nfit_old nfit_new status
 
 -- The lines of the input are done.
-pub data EndsInput {R N I : Type 0} (m : rigs.Ghosts R) (n : sources.Ghosts N) (i : sources.Ghosts I) (seed : ℕ) (old new : R)
+pub data EndsInput {R N I : Type 0} (m : rigs.Ghosts R) (n : sources.Ghosts N) (i : sources.Ghosts I) (seed : ℕ)
+    (old new : R)
     (nfit_old nfit_new : N) (input_old input_new : I) (status : ℕ) : Type 0 where
   input_without : HasNoPlatform m n old new nfit_old nfit_new status → input_new ≡ input_old
       → EndsInput m n i seed old new nfit_old nfit_new input_old input_new status
   input_unread : (platform : Platform) → HasPlatform n nfit_old nfit_new platform
-      → HasNoInput m i old new input_old input_new status → EndsInput m n i seed old new nfit_old nfit_new input_old input_new status
+      → HasNoInput m i old new input_old input_new status
+      → EndsInput m n i seed old new nfit_old nfit_new input_old input_new status
   input_on : (platform : Platform) → HasPlatform n nfit_old nfit_new platform
       → (lines : List (List ℕ)) → HasLines i input_old input_new lines → EndsOn m seed platform lines old new status
       → EndsInput m n i seed old new nfit_old nfit_new input_old input_new status
 
-abbrev pub Ends : {R N I : Type 0} → rigs.Ghosts R → sources.Ghosts N → sources.Ghosts I → ℕ → Option Asked → R → R → N → N
+abbrev pub Ends : {R N I : Type 0} → rigs.Ghosts R → sources.Ghosts N → sources.Ghosts I → ℕ → Option Asked → R → R → N
+    → N
     → I → I → ℕ → Type 0
 Ends m n i seed None old new nfit_old nfit_new input_old input_new status =
     Says m old new (fault_line Words) (fault_status Words) status

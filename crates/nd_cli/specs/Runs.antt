@@ -1,5 +1,6 @@
 -- How lines end that are done on a platform, and what a stop leaves of them.
-use Rattle.std.specs.Prelude.{◌≡◌, ℕ, ◌<◌, Bool, true, false, List, [], ◌++◌, Result, Ok, Err, if◌then◌else◌, length, take}
+use Rattle.std.specs.Prelude.{◌≡◌, ℕ, ◌<◌, Bool, true, false, List, [], ◌++◌, Result, Ok, Err, if◌then◌else◌, length}
+use Rattle.std.specs.Prelude.{take}
 use Rattle.rig_trait.specs.Areas.{Areas}
 use Rattle.rig_trait.specs.declared.shown.Shown.{Ghosts}
 use Rattle.rig_trait.specs.Faults.{counted}
@@ -89,8 +90,8 @@ SaysEnd m old new (Err Say) status = (new ≡ old) × (status ≡ 7)
 SaysEnd m old new (Err (Area dimm)) status = Says m old new (fault_line (faults.Area dimm)) 4 status
 SaysEnd m old new (Err Memory) status = Says m old new (fault_line faults.Memory) 6 status
 
--- The lines are done from the state that the areas stand for, to the end or up to a fault. No call failed but the one that
--- is the fault, and that which should have said its line.
+-- The lines are done from the state that the areas stand for, to the end or up to a fault. No call failed but the one
+-- that is the fault, and that which should have said its line.
 pub record AreRun {R : Type 0} (m : Ghosts R) (run : Run) (old new : R) (status : ℕ) : Type 0 where
   pub start_is : IsTold m old → StandFor run.platform (m.areas old) run.start
   pub slots_are : IsTold m old → run.slots ≡ stored_slots run.platform.modules (m.areas old)
@@ -100,13 +101,14 @@ pub record AreRun {R : Type 0} (m : Ghosts R) (run : Run) (old new : R) (status 
   pub among : IsAmong (has_module run.platform) outcome
   -- The headline: a stop leaves the table behind the lines that are acknowledged, or behind one more.
   pub any_moment : IsTold m old → LeavesOnly m old new (IsLeftOf (IsTold m old) run (m.said old))
-  -- No other area is written, and `init-labels` writes its index blocks alone. A stop leaves them so where no line changes
-  -- labels.
+  -- No other area is written, and `init-labels` writes its index blocks alone. A stop leaves them so where no line
+  -- changes labels.
   pub bytes : IsTold m old → KeepsBytes (fails_at outcome) run.platform run.lines (m.areas old) (m.areas new)
   pub bytes_left : IsTold m old → LeaveLabels run.lines
       → LeavesOnly m old new (LeavesBytes run.platform run.lines (m.areas old))
 
--- The areas could not be read, or memory was refused there. Nothing was written, and then the line of the fault is said.
+-- The areas could not be read, or memory was refused there. Nothing was written, and then the line of the fault is
+-- said.
 pub record IsUnstarted {R : Type 0} (m : Ghosts R) (platform : Platform) (old new : R) (status : ℕ) : Type 0 where
   pub read : R
   pub reads : Reads m old read
@@ -117,7 +119,8 @@ pub record IsUnstarted {R : Type 0} (m : Ghosts R) (platform : Platform) (old ne
 
 -- the run of these lines with a seed on a platform, from a state
 abbrev pub run_from : Platform → ℕ → List (List ℕ) → (ℕ → ℕ) → State → Run
-run_from platform seed lines slots start = record { platform = platform; slots = slots; seed = seed; start = start; lines = lines }
+run_from platform seed lines slots start =
+    record { platform = platform; slots = slots; seed = seed; start = start; lines = lines }
 
 pub data EndsOn {R : Type 0} (m : Ghosts R) (seed : ℕ) (platform : Platform) (lines : List (List ℕ)) (old new : R)
     (status : ℕ) : Type 0 where

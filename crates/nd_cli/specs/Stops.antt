@@ -16,9 +16,10 @@ pub record SaysFault (known : Type 0) (run : Run) (said : List ℕ) (c : CrashRe
   pub fault : Fault
   pub count : ℕ
   pub said_is : c.said ≡ said ++ progress.said ++ take count (fault_line fault)
-  pub areas_are : IsFair c → HasTable run.platform progress.state c.areas ⊎ HasNextTable known run acknowledged progress c.areas
+  pub areas_are : IsFair c → HasTable run.platform progress.state c.areas
+      ⊎ HasNextTable known run acknowledged progress c.areas
 
--- What a stop leaves at any moment: the replies to the first lines, and behind them nothing, a part of the next reply, or
--- a front of the line of a fault; and the table behind these lines, or behind one more.
+-- What a stop leaves at any moment: the replies to the first lines, and behind them nothing, a part of the next reply,
+-- or a front of the line of a fault; and the table behind these lines, or behind one more.
 abbrev pub IsLeftOf : Type 0 → Run → List ℕ → CrashRecord → Type 0
 IsLeftOf known run said c = IsLeft known run said c ⊎ SaysFault known run said c

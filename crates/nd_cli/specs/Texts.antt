@@ -17,7 +17,8 @@ nfit_fault_text (nfit.Length told len) = codes "length told=" ++ decimal told ++
 nfit_fault_text (nfit.Revision value) = codes "revision value=" ++ decimal value
 nfit_fault_text (nfit.Checksum sum) = codes "checksum sum=" ++ decimal sum
 nfit_fault_text (nfit.Structure at) = codes "structure at=" ++ decimal at
-nfit_fault_text (nfit.TwiceIndex kind index) = codes "twice-index kind=" ++ decimal kind ++ codes " index=" ++ decimal index
+nfit_fault_text (nfit.TwiceIndex kind index) =
+    codes "twice-index kind=" ++ decimal kind ++ codes " index=" ++ decimal index
 nfit_fault_text (nfit.TooMany kind) = codes "too-many kind=" ++ decimal kind
 
 abbrev pub source_name : SourceName → List ℕ

@@ -1,5 +1,6 @@
 -- The words of a command line, and the form that they are.
-use Rattle.std.specs.Prelude.{ℕ, ◌^◌, ◌&&◌, Bool, List, [], ◌∷◌, ◌++◌, Option, Some, None, codes, drop, false, if◌then◌else◌, nat_eq, not, slice_get, unwrap_or, String}
+use Rattle.std.specs.Prelude.{ℕ, ◌^◌, ◌&&◌, Bool, List, [], ◌∷◌, ◌++◌, Option, Some, None, codes, drop, false}
+use Rattle.std.specs.Prelude.{if◌then◌else◌, nat_eq, not, slice_get, unwrap_or, String}
 use Rattle.std.specs.declared.alloc.Global.{Global}
 use Rattle.std.specs.List.{after_first, before_first, join_by, list_any, starts_with}
 use Rattle.std.specs.Option.{option_map}

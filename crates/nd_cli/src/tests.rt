@@ -37,8 +37,8 @@ const OTHER_MISSING: &str = "refused not-ready missing dimm=0x00000101\n";
 /// The seed of a run that makes no uuid, or whose uuids are not looked at.
 const SEED: u128 = 1;
 
-const REGIONS: &str =
-    "  region index=1 spa=0x0000000100000000 size=137438953472 ways=2 cookie=0x0002e2420000346b status=missing dimm=0x00000101\nok regions=1\n";
+const REGIONS: &str = "  region index=1 spa=0x0000000100000000 size=137438953472 ways=2 \
+     cookie=0x0002e2420000346b status=missing dimm=0x00000101\nok regions=1\n";
 
 /// The words of a command line without quotes.
 fn words(alloc: Global, line: &str) -> Result<Vec<String>, AllocError> {
@@ -325,10 +325,12 @@ const CREATED: &str =
     "ok created uuid=0f6b1a52-7c3e-4d28-9a41-5be0c7d2e813 region=1 offset=0 length=2097152 size=4194304 spare=1\n";
 
 const NAMESPACE: &str =
-    "  namespace uuid=0f6b1a52-7c3e-4d28-9a41-5be0c7d2e813 name=db0 region=1 mode=raw sector=512 offset=0 length=2097152 size=4194304 pending=no read-only=no\nok namespaces=1\n";
+    "  namespace uuid=0f6b1a52-7c3e-4d28-9a41-5be0c7d2e813 name=db0 region=1 mode=raw sector=512 \
+     offset=0 length=2097152 size=4194304 pending=no read-only=no\nok namespaces=1\n";
 
 const PENDING: &str =
-    "  namespace uuid=0f6b1a52-7c3e-4d28-9a41-5be0c7d2e813 name=db0 region=1 mode=raw sector=512 offset=0 length=2097152 size=4194304 pending=yes read-only=no\nok namespaces=1\n";
+    "  namespace uuid=0f6b1a52-7c3e-4d28-9a41-5be0c7d2e813 name=db0 region=1 mode=raw sector=512 \
+     offset=0 length=2097152 size=4194304 pending=yes read-only=no\nok namespaces=1\n";
 
 const NONE: &str = "ok namespaces=0\n";
 

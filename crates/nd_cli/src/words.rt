@@ -4,7 +4,8 @@ ghost use Rattle.std.specs.Prelude.{◌≡◌, ◌++◌, IfOk, IsErr, IsSome, sl
 ghost use Rattle.std.specs.Option.{option_copied, option_map};
 ghost use Rattle.std.specs.List.{after_first, before_first};
 ghost use Rattle.std.specs.String.{string_bytes};
-ghost use Rattle.nd_cli.specs.Words.{asked, asked_in, dir_of, do_form, form_in, handle, is_dashes, is_option, labels_form, line_of, operands_form, run_form};
+ghost use Rattle.nd_cli.specs.Words.{asked, asked_in, dir_of, do_form, form_in, handle, is_dashes, is_option};
+ghost use Rattle.nd_cli.specs.Words.{labels_form, line_of, operands_form, run_form};
 
 use cmd_words::read_number;
 use std::alloc::{AllocError, Global};

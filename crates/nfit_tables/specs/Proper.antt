@@ -1,5 +1,7 @@
--- Which tables are proper: those that bytes can spell, in which nothing stands twice that names something, or too often.
-use Rattle.std.specs.Prelude.{◌≡◌, ℕ, ◌<◌, ◌≤◌, ◌^◌, ◌==◌, ◌&&◌, ◌||◌, Bool, false, List, [], ◌∷◌, Option, Some, None, All, filter, if◌then◌else◌, length, nat_lt, not}
+-- Which tables are proper: those that bytes can spell, in which nothing stands twice that names something, or too
+-- often.
+use Rattle.std.specs.Prelude.{◌≡◌, ℕ, ◌<◌, ◌≤◌, ◌^◌, ◌==◌, ◌&&◌, ◌||◌, Bool, false, List, [], ◌∷◌, Option, Some, None}
+use Rattle.std.specs.Prelude.{All, filter, if◌then◌else◌, length, nat_lt, not}
 use Rattle.std.specs.List.{filter_map, list_any}
 use Rattle.std.specs.Str.{bytes_eq}
 use Rattle.view_types.specs.Guids.{persistent_memory}

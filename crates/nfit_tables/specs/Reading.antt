@@ -1,10 +1,13 @@
 -- The table that bytes spell, or the first fault of bytes that spell none.
-use Rattle.std.specs.Prelude.{◌≡◌, ℕ, zero, suc, ◌+◌, ◌*◌, ◌%◌, ◌==◌, ◌&&◌, Bool, List, [], ◌∷◌, Option, Some, None, Result, Ok, Err, codes, drop, if◌then◌else◌, length, map, nat_le, nat_lt, not, slice_index, sum, take}
+use Rattle.std.specs.Prelude.{◌≡◌, ℕ, zero, suc, ◌+◌, ◌*◌, ◌%◌, ◌==◌, ◌&&◌, Bool, List, [], ◌∷◌, Option, Some, None}
+use Rattle.std.specs.Prelude.{Result, Ok, Err, codes, drop, if◌then◌else◌, length, map, nat_le, nat_lt, not}
+use Rattle.std.specs.Prelude.{slice_index, sum, take}
 use Rattle.std.specs.List.{list_any, range_with_len}
 use Rattle.std.specs.Str.{bytes_eq}
 use Rattle.byte_ranges.specs.Ranges.{number_at, range}
 use Rattle.nfit_tables.specs.declared.fault.NfitFault.{NfitFault}
-use Rattle.nfit_tables.specs.declared.fault.NfitFault.TheVariants.{Short, Signature, Length, Revision, Checksum, Structure, TwiceIndex, TooMany}
+use Rattle.nfit_tables.specs.declared.fault.NfitFault.TheVariants.{Short, Signature, Length, Revision, Checksum}
+use Rattle.nfit_tables.specs.declared.fault.NfitFault.TheVariants.{Structure, TwiceIndex, TooMany}
 use Rattle.nfit_tables.specs.declared.fault.ReadNfit.{ReadNfit}
 use Rattle.nfit_tables.specs.declared.fault.ReadNfit.TheVariants as errors
 use Rattle.nfit_tables.specs.declared.pieces.Header.{Header}
@@ -15,7 +18,8 @@ use Rattle.nfit_tables.specs.declared.pieces.ControlPiece.{ControlPiece}
 use Rattle.nfit_tables.specs.declared.pieces.Piece.{Piece}
 use Rattle.nfit_tables.specs.declared.pieces.Piece.TheVariants.{Range, Mapping, Interleave, Control, Kept}
 use Rattle.nfit_tables.specs.declared.pieces.Nfit.{Nfit}
-use Rattle.nfit_tables.specs.Limits.{header_len, least_control, least_interleave, least_mapping, least_range, least_structure, most_modules, most_regions}
+use Rattle.nfit_tables.specs.Limits.{header_len, least_control, least_interleave, least_mapping, least_range}
+use Rattle.nfit_tables.specs.Limits.{least_structure, most_modules, most_regions}
 use Rattle.nfit_tables.specs.Proper.{is_same_name, module_count, names, region_count}
 
 infixl 10 ◌>>=◌
@@ -132,7 +136,8 @@ pieces_at most at [] = Ok []
 pieces_at zero at (byte ∷ bytes) = Err (Structure at)
 pieces_at (suc most) at (byte ∷ bytes) =
     if is_structure (byte ∷ bytes)
-    then (pieces_at most (at + told_length (byte ∷ bytes)) (drop (told_length (byte ∷ bytes)) (byte ∷ bytes)) >>= λ more.
+    then (pieces_at most (at + told_length (byte ∷ bytes)) (drop (told_length (byte ∷ bytes)) (byte ∷ bytes))
+    >>= λ more.
     Ok (piece_in (take (told_length (byte ∷ bytes)) (byte ∷ bytes)) ∷ more))
     else Err (Structure at)
 
@@ -149,7 +154,8 @@ header_in bytes = record {
 -- the first name that was an earlier one
 abbrev pub twice_behind : List (ℕ × ℕ) → List (ℕ × ℕ) → Option (ℕ × ℕ)
 twice_behind earlier [] = None
-twice_behind earlier (name ∷ names) = if list_any (is_same_name name) earlier then Some name else twice_behind (name ∷ earlier) names
+twice_behind earlier (name ∷ names) =
+    if list_any (is_same_name name) earlier then Some name else twice_behind (name ∷ earlier) names
 
 abbrev pub first_twice : List Piece → Option (ℕ × ℕ)
 first_twice pieces = twice_behind [] (names pieces)

@@ -26,8 +26,8 @@ range_fields p = little_bytes 2 p.index
     ++ little_bytes 8 p.length
     ++ little_bytes 8 p.attributes
 
--- region mapping (type 1): Device Handle 4, Physical ID 8, Region ID 10, Range Index 12, Control Index 14, Region Size 16,
--- Region Offset 24, Module Address Base 32, Interleave Index 40, Ways 42, State Flags 44, Reserved 46
+-- region mapping (type 1): Device Handle 4, Physical ID 8, Region ID 10, Range Index 12, Control Index 14, Region Size
+-- 16, Region Offset 24, Module Address Base 32, Interleave Index 40, Ways 42, State Flags 44, Reserved 46
 unfoldable pub mapping_fields : MappingPiece → List ℕ
 mapping_fields p = little_bytes 4 p.device_handle
     ++ little_bytes 2 p.physical_id
@@ -50,9 +50,9 @@ interleave_fields p = little_bytes 2 p.index
     ++ little_bytes 4 p.line_size
     ++ flat_map (little_bytes 4) p.lines
 
--- control region (type 4): Index 4, Vendor 6, Device 8, Revision 10, Subsystem Vendor 12, Device 14 and Revision 16, Valid
--- Fields 18, Manufacturing Location 19, Manufacturing Date 20, Reserved 22, Serial Number 24, Format Code 28, Number of
--- Windows 30
+-- control region (type 4): Index 4, Vendor 6, Device 8, Revision 10, Subsystem Vendor 12, Device 14 and Revision 16,
+-- Valid Fields 18, Manufacturing Location 19, Manufacturing Date 20, Reserved 22, Serial Number 24, Format Code 28,
+-- Number of Windows 30
 unfoldable pub control_fields : ControlPiece → List ℕ
 control_fields p = little_bytes 2 p.index
     ++ little_bytes 2 p.vendor

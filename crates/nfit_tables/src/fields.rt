@@ -2,8 +2,10 @@
 
 ghost use Rattle.std.specs.Prelude.{◌≡◌, ◌+◌, ◌*◌, ◌≤◌, drop, length, slice_index, IfOk, IsTrue};
 ghost use Rattle.byte_ranges.specs.Ranges.{number_at};
-ghost use Rattle.nfit_tables.specs.Limits.{header_len, least_control, least_interleave, least_mapping, least_range, least_structure};
-ghost use Rattle.nfit_tables.specs.Reading.{control_in, has_least, header_in, interleave_in, line_count, lines_in, mapping_in, piece_by, piece_in, range_in};
+ghost use Rattle.nfit_tables.specs.Limits.{header_len, least_control, least_interleave, least_mapping, least_range};
+ghost use Rattle.nfit_tables.specs.Limits.{least_structure};
+ghost use Rattle.nfit_tables.specs.Reading.{control_in, has_least, header_in, interleave_in, line_count, lines_in};
+ghost use Rattle.nfit_tables.specs.Reading.{mapping_in, piece_by, piece_in, range_in};
 
 use crate::limits::{LEAST_CONTROL, LEAST_INTERLEAVE, LEAST_MAPPING, LEAST_RANGE, LEAST_STRUCTURE};
 use crate::pieces::{

@@ -4,7 +4,8 @@ ghost use Rattle.std.specs.Prelude.{◌≡◌, ◌+◌, ◌*◌, ◌%◌, ◌<�
 ghost use Rattle.std.specs.Option.{SomeIff};
 ghost use Rattle.std.specs.List.{flat_map, list_all};
 ghost use Rattle.byteorder.specs.Endian.{little_bytes};
-ghost use Rattle.nfit_tables.specs.Spelling.{body_of, control_fields, header_with, interleave_fields, type_of, length_of, mapping_fields, range_fields, spelling, spellings, text};
+ghost use Rattle.nfit_tables.specs.Spelling.{body_of, control_fields, header_with, interleave_fields, type_of};
+ghost use Rattle.nfit_tables.specs.Spelling.{length_of, mapping_fields, range_fields, spelling, spellings, text};
 ghost use Rattle.nfit_tables.specs.declared.pieces.Piece.TheVariants.{Interleave, Range};
 ghost use Rattle.nfit_tables.specs.Fitting.{fits};
 

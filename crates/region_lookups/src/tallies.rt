@@ -1,6 +1,7 @@
 //! Namespaces that are looked for among all those of a region.
 
-ghost use Rattle.std.specs.Prelude.{◌≡◌, ◌+◌, ◌<◌, ◌++◌, ◌∷◌, ◌^◌, [], true, Bool, IfSome, List, Option, count_by, find};
+ghost use Rattle.std.specs.Prelude.{◌≡◌, ◌+◌, ◌<◌, ◌++◌, ◌∷◌, ◌^◌, [], true, Bool, IfSome, List, Option, count_by};
+ghost use Rattle.std.specs.Prelude.{find};
 ghost use Rattle.std.specs.Option.{option_and_then, option_copied, option_to_list};
 ghost use Rattle.std.proofs.lemmas.Map.Entries.{option_filter};
 ghost use Rattle.view_types.specs.declared.namespaces.Namespace.{Namespace};

@@ -5,7 +5,8 @@ use Rattle.byteorder.specs.Endian.{little_bytes}
 use Rattle.fletcher64.specs.Sums.{checksum_of}
 use Rattle.region_map.specs.declared.platform.Member.{Member}
 
--- version 1.2, 48 bytes: Region Offset 0, Serial Number 8, Vendor 12, Manufacturing Date 14, Manufacturing Location 16, zeros
+-- version 1.2, 48 bytes: Region Offset 0, Serial Number 8, Vendor 12, Manufacturing Date 14, Manufacturing Location 16,
+-- zeros
 unfoldable pub entry12 : Member → List ℕ
 entry12 m = little_bytes 8 m.region_offset
     ++ little_bytes 4 m.serial

@@ -11,7 +11,8 @@ use Rattle.region_map.specs.declared.records.Part.{Part}
 use Rattle.region_map.specs.declared.records.ControlFields.{ControlFields}
 use Rattle.region_map.specs.declared.platform.Region.{Region}
 use Rattle.region_map.specs.declared.platform.Platform.{Platform}
-use Rattle.region_map.specs.Records.{IsAscending, all_control_fields, line_tables, member_of, parts_naming, persistent_ranges, region_parts}
+use Rattle.region_map.specs.Records.{IsAscending, all_control_fields, line_tables, member_of, parts_naming}
+use Rattle.region_map.specs.Records.{persistent_ranges, region_parts}
 use Rattle.region_map.specs.Cookies.{cookie12}
 use Rattle.region_map.specs.Rules.{first_rule}
 
@@ -29,7 +30,8 @@ HoldsBy controls parts region None = IsUsableWith controls parts region
 HoldsBy controls parts region (Some rule) = IsUnusable region
 
 -- the region of a range, where these mappings name any region
-pub record IsRegionOf (parts : List Part) (controls : List ControlFields) (range : PersistentRange) (region : Region) : Type 0 where
+pub record IsRegionOf (parts : List Part) (controls : List ControlFields) (range : PersistentRange)
+    (region : Region) : Type 0 where
   pub index : region.index ≡ range.index
   pub spa : region.spa ≡ range.base
   pub len : region.length ≡ range.length

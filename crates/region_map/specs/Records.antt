@@ -1,5 +1,6 @@
 -- What the structures of a table say of regions (ACPI 6.2, section 5.2.25).
-use Rattle.std.specs.Prelude.{◌≡◌, ℕ, ◌==◌, Bool, List, Option, Some, None, filter, find, if◌then◌else◌, map, option_map}
+use Rattle.std.specs.Prelude.{◌≡◌, ℕ, ◌==◌, Bool, List, Option, Some, None, filter, find, if◌then◌else◌, map}
+use Rattle.std.specs.Prelude.{option_map}
 use Rattle.std.specs.List.{filter_map, list_any}
 use Rattle.std.specs.List.Sorted.{IsNonDecreasingBy, IsPermutation}
 use Rattle.nfit_tables.specs.declared.pieces.Piece.{Piece}

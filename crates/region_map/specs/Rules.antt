@@ -1,9 +1,11 @@
 -- The rules under which a region cannot be used. The members are the mappings that name the region, and `parts` are the
 -- mappings that name any region.
-use Rattle.std.specs.Prelude.{ℕ, ◌+◌, ◌*◌, ◌^◌, ◌==◌, ◌&&◌, ◌||◌, Bool, List, Option, Some, None, count_by, if◌then◌else◌, is_none, length, max, min, nat_lt, not}
+use Rattle.std.specs.Prelude.{ℕ, ◌+◌, ◌*◌, ◌^◌, ◌==◌, ◌&&◌, ◌||◌, Bool, List, Option, Some, None, count_by}
+use Rattle.std.specs.Prelude.{if◌then◌else◌, is_none, length, max, min, nat_lt, not}
 use Rattle.std.specs.List.{list_any}
 use Rattle.view_types.specs.declared.rule.Rule.{Rule}
-use Rattle.view_types.specs.declared.rule.Rule.TheVariants.{NoMapping, TooManyWays, Empty, SizesDiffer, CapacityDiffers, Overflow, ModuleTwice, OffsetTwice, NoControl, DpaOverlap}
+use Rattle.view_types.specs.declared.rule.Rule.TheVariants.{NoMapping, TooManyWays, Empty, SizesDiffer, CapacityDiffers}
+use Rattle.view_types.specs.declared.rule.Rule.TheVariants.{Overflow, ModuleTwice, OffsetTwice, NoControl, DpaOverlap}
 use Rattle.region_map.specs.declared.records.PersistentRange.{PersistentRange}
 use Rattle.region_map.specs.declared.records.Part.{Part}
 use Rattle.region_map.specs.declared.records.ControlFields.{ControlFields}

@@ -11,7 +11,8 @@ AreApart a b = (a.dpa_base + a.size ≤ b.dpa_base) ⊎ (b.dpa_base + b.size ≤
 
 -- two usable regions never share a byte of a module
 pub record AreDisjoint (platform : Platform) : Type 0 where
-  pub each : (r q : Region) (a b : Member) → Contains platform.regions r → Contains platform.regions q → r.index ≢ q.index
+  pub each : (r q : Region) (a b : Member) → Contains platform.regions r → Contains platform.regions q
+      → r.index ≢ q.index
       → Contains r.members a → Contains q.members b → a.handle ≡ b.handle → AreApart a b
 
 -- regions stand by ascending index, each index once

@@ -2,7 +2,9 @@
 
 ghost use Rattle.std.specs.Prelude.{◌≡◌, filter, IfOk};
 ghost use Rattle.std.specs.List.{filter_map};
-ghost use Rattle.region_map.specs.Records.{IsAscending, all_control_fields, control_fields_of, control_named, line_table_of, line_tables, member_of, names_region, part_of, parts_naming, persistent_range_of, persistent_ranges, region_parts};
+ghost use Rattle.region_map.specs.Records.{IsAscending, all_control_fields, control_fields_of, control_named};
+ghost use Rattle.region_map.specs.Records.{line_table_of, line_tables, member_of, names_region, part_of, parts_naming};
+ghost use Rattle.region_map.specs.Records.{persistent_range_of, persistent_ranges, region_parts};
 
 use crate::platform::{LineTable, Member};
 use nfit_tables::Piece;

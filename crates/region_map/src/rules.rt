@@ -2,7 +2,8 @@
 
 ghost use Rattle.std.specs.Prelude.{◌≡◌, ◌≤◌, ◌*◌, ◌==◌, ◌&&◌, length, not};
 ghost use Rattle.std.specs.List.{list_any};
-ghost use Rattle.region_map.specs.Rules.{capacity_differs, dpa_overlap, exceeds, first_rule, meets, module_twice, no_control, offset_twice, sizes_differ, sum_overflows};
+ghost use Rattle.region_map.specs.Rules.{capacity_differs, dpa_overlap, exceeds, first_rule, meets, module_twice};
+ghost use Rattle.region_map.specs.Rules.{no_control, offset_twice, sizes_differ, sum_overflows};
 
 use crate::records::{ControlFields, Part, PersistentRange, control_named};
 use view_types::Rule;

@@ -58,7 +58,8 @@ refusal_text (refusals.BadSize unit) = codes "bad-size unit=" ++ decimal unit
 refusal_text (refusals.NameInUse uuid) = codes "name-in-use uuid=" ++ uuid_text uuid
 refusal_text (refusals.UuidInUse dimm) = codes "uuid-in-use dimm=" ++ handle_text dimm
 refusal_text (refusals.NoSpace largest) = codes "no-space largest=" ++ decimal largest
-refusal_text (refusals.NoSlots dimm spare) = codes "no-slots dimm=" ++ handle_text dimm ++ codes " spare=" ++ decimal spare
+refusal_text (refusals.NoSlots dimm spare) =
+    codes "no-slots dimm=" ++ handle_text dimm ++ codes " spare=" ++ decimal spare
 refusal_text refusals.NotHeld = codes "not-held"
 refusal_text (refusals.AlreadyReady dimm) = codes "already-ready dimm=" ++ handle_text dimm
 refusal_text (refusals.NoTranslation fault) = codes "no-translation " ++ translate_fault_text fault

@@ -23,4 +23,5 @@ say_fault_counted counts = record counts { say_faults = one_more counts.say_faul
 -- counts as the tuple of their parts, by which proofs tell two apart
 abbrev pub counts_code : Coded Counts
 counts_code = code_by (ℕ × (ℕ × (ℕ × ℕ))) (coded× coded_ℕ (coded× coded_ℕ (coded× coded_ℕ coded_ℕ)))
-    (λ c. (c.faults, (c.say_faults, (c.failed_dimm, c.reads)))) (λ p. record { faults = p.0; say_faults = p.1.0; failed_dimm = p.1.1.0; reads = p.1.1.1 }) (λ _. refl)
+    (λ c. (c.faults, (c.say_faults, (c.failed_dimm, c.reads))))
+    (λ p. record { faults = p.0; say_faults = p.1.0; failed_dimm = p.1.1.0; reads = p.1.1.1 }) (λ _. refl)

@@ -11,8 +11,10 @@ use Rattle.rig_trait.specs.Undone.{before, standing, whole}
 
 -- a call stopped with these bytes in its range, or said: as many as were to be written, or a front of the text
 abbrev pub stopped : KeptCall → CrashRecord → List ℕ → Option CrashRecord
-stopped (kept_write call dimm at old new) was torn = if nat_eq (length torn) (length new) then Some (whole (written was.areas dimm at torn) was.said) else None
-stopped (kept_say call said text) was torn = if starts_with nat_eq text torn then Some (whole was.areas (was.said ++ torn)) else None
+stopped (kept_write call dimm at old new) was torn =
+    if nat_eq (length torn) (length new) then Some (whole (written was.areas dimm at torn) was.said) else None
+stopped (kept_say call said text) was torn =
+    if starts_with nat_eq text torn then Some (whole was.areas (was.said ++ torn)) else None
 
 -- the first of these calls stopped so
 abbrev pub first_stopped : List KeptCall → CrashRecord → List ℕ → Option CrashRecord
@@ -24,7 +26,8 @@ abbrev pub made_of : ℕ → CrashRecord → Memory
 made_of room c = record (new_memory room) { areas = c.areas; said = c.said }
 
 abbrev pub crashed : Memory → ℕ → List ℕ → Option Memory
-crashed rig call torn = option_map (made_of rig.room) (first_stopped (kept_from call (kept_calls rig.keeping)) (standing rig) torn)
+crashed rig call torn =
+    option_map (made_of rig.room) (first_stopped (kept_from call (kept_calls rig.keeping)) (standing rig) torn)
 
 -- a list begins with a call
 abbrev pub IsFirst : List KeptCall → KeptCall → Type 0

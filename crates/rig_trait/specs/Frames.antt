@@ -13,11 +13,13 @@ IsTold m rig = IsTrue (m.tells rig)
 -- The clock goes on. `during` is what a stop within the call, or right after it, leaves.
 pub record Elapses {R : Type 0} (m : Ghosts R) (old new : R) (during : CrashRecord → Type 0) : Type 0 where
   pub later : m.moment old ≤ m.moment new
-  pub nothing_else : (t : ℕ) (c : CrashRecord) → t ≤ m.moment old → m.left_since new t c → m.left_since old t c ⊎ during c
+  pub nothing_else : (t : ℕ) (c : CrashRecord) → t ≤ m.moment old → m.left_since new t c
+      → m.left_since old t c ⊎ during c
   pub keeps : (t : ℕ) (c : CrashRecord) → t ≤ m.moment old → m.left_since old t c → m.left_since new t c
   pub left_is : (c : CrashRecord) → m.may_leave new c → during c
   -- what a stop since an earlier moment might have left was left before the call, or by a stop since it began
-  pub joins : (t : ℕ) (c : CrashRecord) → t ≤ m.moment old → m.left_since new t c → m.left_since old t c ⊎ m.left_since new (m.moment old) c
+  pub joins : (t : ℕ) (c : CrashRecord) → t ≤ m.moment old → m.left_since new t c
+      → m.left_since old t c ⊎ m.left_since new (m.moment old) c
 
 -- A stop at any moment from `old` on leaves a record that has P.
 pub record LeavesOnly {R : Type 0} (m : Ghosts R) (old new : R) (P : CrashRecord → Type 0) : Type 0 where
@@ -79,7 +81,8 @@ abbrev pub WritesBytes : {R T : Type 0} → Ghosts R → R → R → ℕ → ℕ
 WritesBytes m old new dimm at bytes result = IsTold m old → Writes (m.areas old) (m.areas new) dimm at bytes result
 
 -- What a stop within a write, or right after it, leaves; no write is torn once it answered Ok.
-pub record WriteLeaves {R T : Type 0} (m : Ghosts R) (old new : R) (dimm at : ℕ) (bytes : List ℕ) (result : Result T Failed) : Type 0 where
+pub record WriteLeaves {R T : Type 0} (m : Ghosts R) (old new : R) (dimm at : ℕ) (bytes : List ℕ)
+    (result : Result T Failed) : Type 0 where
   pub time : Elapses m old new (LeftByWrite (m.areas old) (m.areas new) (m.said old) dimm at bytes result)
   pub whole : OnOk result ((c : CrashRecord) → m.may_leave new c → c.torn ≡ None)
 

@@ -8,7 +8,8 @@ use Rattle.rig_trait.specs.declared.kept_calls.KeptCalls.TheInside.{Inside}
 
 -- the call of an entry, by the bytes of all
 abbrev pub call_at : List ℕ → Entry → KeptCall
-call_at bytes (Write call dimm at from len) = kept_write call dimm at (range bytes from len) (range bytes (from + len) len)
+call_at bytes (Write call dimm at from len) =
+    kept_write call dimm at (range bytes from len) (range bytes (from + len) len)
 call_at bytes (Say call said from len) = kept_say call said (range bytes from len)
 
 -- the number of an entry's call

@@ -1,5 +1,6 @@
 -- The calls that a rig in memory keeps, from a moment on.
-use Rattle.std.specs.Prelude.{◌≡◌, ℕ, ◌+◌, ◌*◌, Bool, true, ◌&&◌, List, [], ◌∷◌, ◌++◌, ◌⊎◌, length, Option, Some, None, nat_eq, nat_lt, nat_le, if◌then◌else◌, refl}
+use Rattle.std.specs.Prelude.{◌≡◌, ℕ, ◌+◌, ◌*◌, Bool, true, ◌&&◌, List, [], ◌∷◌, ◌++◌, ◌⊎◌, length, Option, Some, None}
+use Rattle.std.specs.Prelude.{nat_eq, nat_lt, nat_le, if◌then◌else◌, refl}
 use Rattle.std.specs.Coded.{Coded, coded_ℕ, coded_list, coded×, coded⊎, code_by}
 use Rattle.std.proofs.Common.{inl, inr}
 use Rattle.rig_trait.specs.Areas.{Areas, IsWithin, bytes_in}
@@ -87,9 +88,12 @@ call_of-parts_of (kept_say call said text) = refl
 
 abbrev pub kept_code : Coded KeptCall
 kept_code = code_by (WriteParts ⊎ SayParts)
-    (coded⊎ (coded× coded_ℕ (coded× coded_ℕ (coded× coded_ℕ (coded× (coded_list coded_ℕ) (coded_list coded_ℕ))))) (coded× coded_ℕ (coded× coded_ℕ (coded_list coded_ℕ))))
+    (coded⊎ (coded× coded_ℕ (coded× coded_ℕ (coded× coded_ℕ (coded× (coded_list coded_ℕ) (coded_list coded_ℕ)))))
+    (coded× coded_ℕ (coded× coded_ℕ (coded_list coded_ℕ))))
     parts_of call_of call_of-parts_of
 
 abbrev pub keeping_code : Coded Keeping
-keeping_code = code_by (List KeptCall × (ℕ × (ℕ × ℕ))) (coded× (coded_list kept_code) (coded× coded_ℕ (coded× coded_ℕ coded_ℕ)))
-    (λ k. (k.kept, (k.calls, (k.bytes, k.taken)))) (λ p. record { kept = p.0; calls = p.1.0; bytes = p.1.1.0; taken = p.1.1.1 }) (λ _. refl)
+keeping_code = code_by (List KeptCall × (ℕ × (ℕ × ℕ)))
+    (coded× (coded_list kept_code) (coded× coded_ℕ (coded× coded_ℕ coded_ℕ)))
+    (λ k. (k.kept, (k.calls, (k.bytes, k.taken))))
+    (λ p. record { kept = p.0; calls = p.1.0; bytes = p.1.1.0; taken = p.1.1.1 }) (λ _. refl)

@@ -23,7 +23,8 @@ pub record Memory : Type 0 where
 
 -- a rig without areas, before its first call
 abbrev pub new_memory : ℕ → Memory
-new_memory room = record { areas = empty; said = []; room = room; listed = []; calls = 0; counts = no_counts; keeping = None }
+new_memory room =
+    record { areas = empty; said = []; room = room; listed = []; calls = 0; counts = no_counts; keeping = None }
 
 -- a vector's bytes, at its handle
 abbrev pub bytes_of : ℕ × Vec ℕ Global → ℕ × List ℕ
@@ -37,6 +38,15 @@ areas_of map_of_areas = from_entries (map bytes_of map_of_areas.entries)
 abbrev pub memory_code : Coded Memory
 memory_code = code_by (Areas × (List ℕ × (ℕ × (List ℕ × (ℕ × (Counts × Option Keeping))))))
     (coded× (code coded_ℕ (coded_list coded_ℕ))
-    (coded× (coded_list coded_ℕ) (coded× coded_ℕ (coded× (coded_list coded_ℕ) (coded× coded_ℕ (coded× counts_code (coded_option keeping_code)))))))
+    (coded× (coded_list coded_ℕ) (coded× coded_ℕ (coded× (coded_list coded_ℕ)
+    (coded× coded_ℕ (coded× counts_code (coded_option keeping_code)))))))
     (λ m. (m.areas, (m.said, (m.room, (m.listed, (m.calls, (m.counts, m.keeping)))))))
-    (λ p. record { areas = p.0; said = p.1.0; room = p.1.1.0; listed = p.1.1.1.0; calls = p.1.1.1.1.0; counts = p.1.1.1.1.1.0; keeping = p.1.1.1.1.1.1 }) (λ _. refl)
+    (λ p. record {
+      areas = p.0;
+      said = p.1.0;
+      room = p.1.1.0;
+      listed = p.1.1.1.0;
+      calls = p.1.1.1.1.0;
+      counts = p.1.1.1.1.1.0;
+      keeping = p.1.1.1.1.1.1;
+    }) (λ _. refl)

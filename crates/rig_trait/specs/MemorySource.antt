@@ -17,5 +17,7 @@ new_input bytes listed = record { left = bytes; listed = listed; calls = 0; faul
 
 -- an input as the tuple of its parts, by which proofs tell two apart
 abbrev pub input_code : Coded Input
-input_code = code_by (List ℕ × (List ℕ × (ℕ × ℕ))) (coded× (coded_list coded_ℕ) (coded× (coded_list coded_ℕ) (coded× coded_ℕ coded_ℕ)))
-    (λ i. (i.left, (i.listed, (i.calls, i.faults)))) (λ p. record { left = p.0; listed = p.1.0; calls = p.1.1.0; faults = p.1.1.1 }) (λ _. refl)
+input_code = code_by (List ℕ × (List ℕ × (ℕ × ℕ)))
+    (coded× (coded_list coded_ℕ) (coded× (coded_list coded_ℕ) (coded× coded_ℕ coded_ℕ)))
+    (λ i. (i.left, (i.listed, (i.calls, i.faults))))
+    (λ p. record { left = p.0; listed = p.1.0; calls = p.1.1.0; faults = p.1.1.1 }) (λ _. refl)

@@ -47,9 +47,11 @@ pub record Says {T : Type 0} (old new bytes : List ℕ) (result : Result T Faile
   pub count : ℕ
   pub front : new ≡ old ++ take count bytes
 
--- What a stop within a write, or right after it, leaves. After one that failed, nothing torn is left only where no byte changed.
+-- What a stop within a write, or right after it, leaves. After one that failed, nothing torn is left only where no byte
+-- changed.
 abbrev pub LeftByWrite : {T : Type 0} → Areas → Areas → List ℕ → ℕ → ℕ → List ℕ → Result T Failed → CrashRecord → Type 0
-LeftByWrite old new said dimm at put result c = IsTorn old said dimm at put c ⊎ (IsWhole new said c × OnErr result (new ≡ old))
+LeftByWrite old new said dimm at put result c = IsTorn old said dimm at put c
+    ⊎ (IsWhole new said c × OnErr result (new ≡ old))
 
 -- What a stop within a `say`, or right after it, leaves: what one before it left, with a front of the text said behind.
 pub record IsSaying (left_before : CrashRecord → Type 0) (said_before text : List ℕ) (c : CrashRecord) : Type 0 where

@@ -6,7 +6,8 @@ use Rattle.rig_trait.specs.declared.kept.Kept.TheVariants.{Write, Say}
 
 -- a kept write as a write, and a kept `say` as a `say`
 abbrev pub Shows : KeptCall → Kept → Type 0
-Shows (kept_write call dimm at old new) (Write dimm' at' old' new') = (dimm' ≡ dimm) × (at' ≡ at) × (old'.now ≡ old) × (new'.now ≡ new)
+Shows (kept_write call dimm at old new) (Write dimm' at' old' new') =
+    (dimm' ≡ dimm) × (at' ≡ at) × (old'.now ≡ old) × (new'.now ≡ new)
 Shows (kept_say call said text) (Say text') = text'.now ≡ text
 Shows (kept_write call dimm at old new) (Say text') = ⊥
 Shows (kept_say call said text) (Write dimm' at' old' new') = ⊥

@@ -1,5 +1,6 @@
 -- What a rig in memory stood as before each of the calls that it keeps, and what a stop left.
-use Rattle.std.specs.Prelude.{◌≡◌, ◌⊎◌, ◌≤◌, ℕ, zero, suc, List, [], ◌∷◌, ◌++◌, length, take, drop, None, is_some, IsTrue, refl}
+use Rattle.std.specs.Prelude.{◌≡◌, ◌⊎◌, ◌≤◌, ℕ, zero, suc, List, [], ◌∷◌, ◌++◌, length, take, drop, None, is_some}
+use Rattle.std.specs.Prelude.{IsTrue, refl}
 use Rattle.std.proofs.Common.{inr, ap}
 use Rattle.std.proofs.Math.Nat.{le_of_suc-le-suc, not-suc-le-zero}
 use Rattle.rig_trait.specs.Areas.{Areas, written}
@@ -32,7 +33,8 @@ LeftWithin (kept_say call said text) was c = (count : ℕ) × (c ≡ whole was.a
 -- a stop before one of these calls, within it, or after all of them
 abbrev pub LeftBy : List KeptCall → CrashRecord → CrashRecord → Type 0
 LeftBy [] now c = c ≡ now
-LeftBy (call ∷ calls) now c = ((c ≡ before (call ∷ calls) now) ⊎ LeftWithin call (before (call ∷ calls) now) c) ⊎ LeftBy calls now c
+LeftBy (call ∷ calls) now c = ((c ≡ before (call ∷ calls) now) ⊎ LeftWithin call (before (call ∷ calls) now) c)
+    ⊎ LeftBy calls now c
 
 -- what a stop now leaves, and one since a moment: where calls are kept
 abbrev pub LeftNow : Memory → CrashRecord → Type 0
@@ -45,7 +47,8 @@ left_last : (calls : List KeptCall) (now c : CrashRecord) → c ≡ now → Left
 left_last [] now c is = is
 left_last (call ∷ calls) now c is = inr (left_last calls now c is)
 
-pub counts_now_lem : (rig : Memory) (t : ℕ) (c : CrashRecord) → t ≤ length (kept_calls rig.keeping) → LeftNow rig c → LeftSince rig t c
+pub counts_now_lem : (rig : Memory) (t : ℕ) (c : CrashRecord) → t ≤ length (kept_calls rig.keeping) → LeftNow rig c
+    → LeftSince rig t c
 counts_now_lem rig t c le left = (left.0, left_last (drop t (kept_calls rig.keeping)) (standing rig) c left.1)
 
 left_of_none : (calls : List KeptCall) (now c : CrashRecord) → LeftBy (drop (length calls) calls) now c → c ≡ now
@@ -66,7 +69,8 @@ left_of_all calls now c zero left = left
 left_of_all [] now c (suc u) left = left
 left_of_all (call ∷ calls) now c (suc u) left = inr (left_of_all calls now c u left)
 
-left_later : (calls : List KeptCall) (now c : CrashRecord) (t u : ℕ) → t ≤ u → LeftBy (drop u calls) now c → LeftBy (drop t calls) now c
+left_later : (calls : List KeptCall) (now c : CrashRecord) (t u : ℕ) → t ≤ u → LeftBy (drop u calls) now c
+    → LeftBy (drop t calls) now c
 left_later calls now c zero u le left = left_of_all calls now c u left
 left_later calls now c (suc t) zero le left = absurd (not-suc-le-zero le)
 left_later [] now c (suc t) (suc u) le left = left

@@ -1,6 +1,7 @@
 //! A rig over the files of a folder and the standard output.
 
-ghost use Rattle.std.specs.Prelude.{◌≡◌, ◌+◌, ◌≤◌, ◌++◌, [], ◌∷◌, ◌<◌, length, take, false, IfOk, string_bytes, string_len, string_capacity};
+ghost use Rattle.std.specs.Prelude.{◌≡◌, ◌+◌, ◌≤◌, ◌++◌, [], ◌∷◌, ◌<◌, length, take, false, IfOk, string_bytes};
+ghost use Rattle.std.specs.Prelude.{string_len, string_capacity};
 ghost use Rattle.std.specs.FinMap.{empty};
 ghost use Rattle.rig_trait.specs.Counts.{no_counts};
 ghost use Rattle.rig_trait.specs.Files.{area_file, handle_digits, HasRoom};

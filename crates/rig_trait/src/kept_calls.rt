@@ -1,10 +1,12 @@
 //! The calls that a rig in memory keeps, in memory that was taken at once.
 
-ghost use Rattle.std.specs.Prelude.{◌≡◌, ◌≤◌, ◌<◌, ◌+◌, ◌*◌, ◌++◌, [], ◌∷◌, length, drop, Some, None, IfOk, IfSome, IfNone, vec_len, vec_capacity, if◌then◌else◌, IsTrue};
+ghost use Rattle.std.specs.Prelude.{◌≡◌, ◌≤◌, ◌<◌, ◌+◌, ◌*◌, ◌++◌, [], ◌∷◌, length, drop, Some, None, IfOk, IfSome};
+ghost use Rattle.std.specs.Prelude.{IfNone, vec_len, vec_capacity, if◌then◌else◌, IsTrue};
 ghost use Rattle.rig_trait.specs.Areas.{IsWithin};
 ghost use Rattle.rig_trait.specs.Crashed.{first_stopped, IsFirst, stopped};
 ghost use Rattle.rig_trait.specs.InKept.{entry_number};
-ghost use Rattle.rig_trait.specs.Kept.{KeptCall, kept_write, kept_say, write_into, nothing_kept, has_space, with_call, kept_from, AllLieIn};
+ghost use Rattle.rig_trait.specs.Kept.{KeptCall, kept_write, kept_say, write_into, nothing_kept, has_space, with_call};
+ghost use Rattle.rig_trait.specs.Kept.{kept_from, AllLieIn};
 ghost use Rattle.rig_trait.specs.Memory.{areas_of};
 ghost use Rattle.rig_trait.specs.Shows.{Shows, ShowsFirst};
 ghost use Rattle.rig_trait.specs.Undone.{before, undone, whole};

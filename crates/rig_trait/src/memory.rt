@@ -1,6 +1,7 @@
 //! A rig in memory.
 
-ghost use Rattle.std.specs.Prelude.{◌≡◌, ◌≤◌, ◌<◌, ◌+◌, ◌*◌, ◌++◌, ◌↔◌, ◌⊎◌, length, true, false, is_some, Some, None, IsTrue, IsErr, IfOk, IfSome, OnOk, OnErr, Contains, vec_capacity};
+ghost use Rattle.std.specs.Prelude.{◌≡◌, ◌≤◌, ◌<◌, ◌+◌, ◌*◌, ◌++◌, ◌↔◌, ◌⊎◌, length, true, false, is_some, Some, None};
+ghost use Rattle.std.specs.Prelude.{IsTrue, IsErr, IfOk, IfSome, OnOk, OnErr, Contains, vec_capacity};
 ghost use Rattle.std.specs.FinMap.{get, insert};
 ghost use Rattle.std.specs.Option.{option_copied};
 ghost use Rattle.std.specs.Result.{is_err};
@@ -8,12 +9,14 @@ ghost use Rattle.rig_trait.specs.Areas.{IsWithin, size_in, written};
 ghost use Rattle.rig_trait.specs.Crashed.{crashed, IsLeft};
 ghost use Rattle.rig_trait.specs.Counts.{read_counted, fault_counted, say_fault_counted};
 ghost use Rattle.rig_trait.specs.Faults.{one_more};
-ghost use Rattle.rig_trait.specs.Frames.{IsTold, Reads, WritesTo, SaysOnly, FailsAt, GivesBytes, WritesBytes, WriteLeaves, SayLeaves};
+ghost use Rattle.rig_trait.specs.Frames.{IsTold, Reads, WritesTo, SaysOnly, FailsAt, GivesBytes, WritesBytes};
+ghost use Rattle.rig_trait.specs.Frames.{WriteLeaves, SayLeaves};
 ghost use Rattle.rig_trait.specs.Kept.{nothing_kept, has_space, with_call, write_into, kept_say, kept_calls, kept_from};
 ghost use Rattle.rig_trait.specs.Memory.{new_memory};
 ghost use Rattle.rig_trait.specs.Records.{Says};
 ghost use Rattle.rig_trait.specs.Shows.{ShowsFirst};
-ghost use Rattle.rig_trait.specs.Undone.{LeftNow, LeftSince, counts_now_lem, earlier_lem, only_now_lem, now_is_lem, has_record_lem};
+ghost use Rattle.rig_trait.specs.Undone.{LeftNow, LeftSince, counts_now_lem, earlier_lem, only_now_lem, now_is_lem};
+ghost use Rattle.rig_trait.specs.Undone.{has_record_lem};
 
 use crate::counts::Counts;
 use crate::kept_calls::{KeptCalls, keep_say, keep_write};

@@ -4,7 +4,8 @@ ghost use Rattle.std.specs.Prelude.{◌≡◌, length, IfOk};
 ghost use Rattle.std.specs.Result.{is_err};
 ghost use Rattle.rig_trait.specs.Areas.{IsWithin, size_in};
 ghost use Rattle.rig_trait.specs.Faults.{one_more};
-ghost use Rattle.rig_trait.specs.Frames.{IsTold, Reads, WritesTo, SaysOnly, FailsAt, GivesBytes, WritesBytes, WriteLeaves, SayLeaves};
+ghost use Rattle.rig_trait.specs.Frames.{IsTold, Reads, WritesTo, SaysOnly, FailsAt, GivesBytes, WritesBytes};
+ghost use Rattle.rig_trait.specs.Frames.{WriteLeaves, SayLeaves};
 ghost use Rattle.rig_trait.specs.Records.{Says};
 
 use crate::Shown;

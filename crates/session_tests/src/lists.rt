@@ -69,8 +69,10 @@ const INPUT: &str =
     "init-labels dimm=1\n\n# none\ncreate-namespace region=1 size=4M name=db0\nlist\ninit-labels dimm=1\n";
 
 /// All that is said. The uuid is that of the seed and the number 4, as another library makes it.
-const SAID: &str =
-    "ok initialised dimm=0x00000001 slots=2\nok created uuid=cbb21cb2-75b1-5657-831a-a9df31933706 region=1 offset=0 length=2097152 size=4194304 spare=1\n  namespace uuid=cbb21cb2-75b1-5657-831a-a9df31933706 name=db0 region=1 mode=raw sector=512 offset=0 length=2097152 size=4194304 pending=no read-only=no\nok namespaces=1\nrefused already-ready dimm=0x00000001\n";
+const SAID: &str = "ok initialised dimm=0x00000001 slots=2\n\
+     ok created uuid=cbb21cb2-75b1-5657-831a-a9df31933706 region=1 offset=0 length=2097152 size=4194304 spare=1\n\
+     \x20 namespace uuid=cbb21cb2-75b1-5657-831a-a9df31933706 name=db0 region=1 mode=raw sector=512 offset=0 \
+     length=2097152 size=4194304 pending=no read-only=no\nok namespaces=1\nrefused already-ready dimm=0x00000001\n";
 
 /// The length of the first reply, and of the first two.
 const FIRST: usize = 39;

@@ -818,8 +818,8 @@ fn names_earlier(reply: &Reply) -> bool {
     }
 }
 
-/// A command on the namespace of an earlier create is stopped at each write, and each of its calls fails in turn. By the
-/// last but so many writes the table is the one behind it.
+/// A command on the namespace of an earlier create is stopped at each write, and each of its calls fails in turn. By
+/// the last but so many writes the table is the one behind it.
 fn change_each(
     rt: &impl Abort,
     alloc: Global,

@@ -16,7 +16,8 @@ use Rattle.table_steps.specs.declared.change.Change.TheVariants as changes
 use Rattle.table_steps.specs.Steps as steps
 use Rattle.cmd_words.specs.declared.commands.Command.{Command}
 use Rattle.cmd_words.specs.declared.commands.Command.TheVariants.{InitLabels, Create, Destroy, Rename, ReleaseHeld}
-use Rattle.cmd_words.specs.declared.commands.Command.TheVariants.{ListSpaces, ListRegions, ListFree, ListHeld, ToModule, ToSpa, ToRuns}
+use Rattle.cmd_words.specs.declared.commands.Command.TheVariants.{ListSpaces, ListRegions, ListFree, ListHeld, ToModule}
+use Rattle.cmd_words.specs.declared.commands.Command.TheVariants.{ToSpa, ToRuns}
 use Rattle.namespace_core.specs.declared.lists.Query.TheVariants.{Spaces, Regions, Free, Held}
 use Rattle.namespace_core.specs.Create.{modules_of}
 use Rattle.namespace_core.specs.Lists.{IsShown}
@@ -30,8 +31,8 @@ pub record Tells (platform : Platform) (labels : Labels) (IsReply : Reply → Ty
   pub told : IsReply reply
   pub kept : after ≡ state platform labels
 
--- What the command does where the labels of the modules are these. `slots` is how many slots the area of each module has
--- room for, by handle, and `own` the uuid of a new namespace for which the command gives none.
+-- What the command does where the labels of the modules are these. `slots` is how many slots the area of each module
+-- has room for, by handle, and `own` the uuid of a new namespace for which the command gives none.
 abbrev pub Does : Platform → (ℕ → ℕ) → Labels → Command → List ℕ → Reply → State → Type 0
 Does platform slots labels (InitLabels dimm) own reply after =
     steps.Does platform slots labels (changes.InitLabels dimm) own reply after
@@ -79,8 +80,8 @@ is_init _ = false
 abbrev pub has_module : Platform → ℕ → Bool
 has_module platform dimm = list_any (λ handle. handle == dimm) platform.modules
 
--- `init-labels` reads the area again, so what it says is that of the step only where the areas are known to be those that
--- are kept, or where the platform has no such module. The other commands look at no area.
+-- `init-labels` reads the area again, so what it says is that of the step only where the areas are known to be those
+-- that are kept, or where the platform has no such module. The other commands look at no area.
 abbrev pub SaysIfKnown : Platform → Command → Type 0 → Type 0 → Type 0
 SaysIfKnown platform (InitLabels dimm) known fact = known ⊎ (has_module platform dimm ≡ false) → fact
 SaysIfKnown platform _ known fact = fact
@@ -110,8 +111,8 @@ is_change (replies.Spa spa) = false
 is_change (replies.Runs runs) = false
 is_change (replies.Refused refusal) = false
 
--- What `init-labels` makes of the bytes of areas: one that was Uninit has its two index blocks, and behind them its bytes.
--- At any other nothing is written.
+-- What `init-labels` makes of the bytes of areas: one that was Uninit has its two index blocks, and behind them its
+-- bytes. At any other nothing is written.
 pub record Initialises (dimm : ℕ) (areas now : Areas) (result : Result Reply RunFault) : Type 0 where
   pub written : IfOk result (λ reply. is_change reply ≡ true → now ≡ initialised dimm areas)
   pub kept : area_kind (get areas dimm) ≢ Uninit → now ≡ areas

@@ -23,7 +23,8 @@ use Rattle.label_sets.specs.Sets.{StoredSets, labels_in}
 use Rattle.cmd_words.specs.declared.commands.Command.{Command}
 use Rattle.namespace_core.specs.declared.creation.ChangeFault.{ChangeFault}
 use Rattle.namespace_core.specs.declared.creation.ChangeFault.TheVariants as changes
-use Rattle.sessions.specs.Commands.{Does, HasAreas, IsBeforeOrAfter, LeavesArea, SaysIfKnown, is_init, may_change, written_by}
+use Rattle.sessions.specs.Commands.{Does, HasAreas, IsBeforeOrAfter, LeavesArea, SaysIfKnown, is_init, may_change}
+use Rattle.sessions.specs.Commands.{written_by}
 use Rattle.sessions.specs.Faults.{HasRunCause, IsRunAmong, IsRunAt, fault_by}
 use Rattle.sessions.specs.declared.faults.RunFault.{RunFault}
 

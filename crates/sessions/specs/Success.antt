@@ -20,9 +20,9 @@ use Rattle.table_steps.specs.Create.{is_named, is_unnamed, keeps_uuid, size_unit
 use Rattle.cmd_words.specs.declared.commands.Command.{Command}
 use Rattle.cmd_words.specs.declared.commands.Command.TheVariants.{Create}
 
--- A region has room for a namespace: it is Ready, the size is above 0 and a multiple of 2 MiB of each member, the name is
--- empty or new in the region, no label that is not dead has the uuid, the free extents are large enough, and each member
--- has two spare slots.
+-- A region has room for a namespace: it is Ready, the size is above 0 and a multiple of 2 MiB of each member, the name
+-- is empty or new in the region, no label that is not dead has the uuid, the free extents are large enough, and each
+-- member has two spare slots.
 pub record IsOpenFor (platform : Platform) (labels : Labels) (asked : NewNamespace) : Type 0 where
   pub region : Region
   pub found : region_at platform asked.region ≡ Some region

@@ -94,7 +94,8 @@ impl Session {
         // The reply and the state are those of the step.
         ensures step { IfOk result (λ reply. SaysIfKnown self.old.platform command.now
             (IsCurrent R.Shown rig.old self.old)
-            (Does self.old.platform (slots_of self.old) (labels_of self.old) command.now own reply (state_of self.new))) }
+            (Does self.old.platform (slots_of self.old) (labels_of self.old) command.now own reply
+            (state_of self.new))) }
         ensures current { IsCurrent R.Shown rig.old self.old → OnOk result (IsCurrent R.Shown rig.new self.new) }
 
         // Where none of the conditions on a create fails it is accepted, unless an area fails or memory is refused.

@@ -1,9 +1,12 @@
 -- Why addresses of a region cannot be translated, and what they are translated by (ACPI 6.2, sections 5.2.25.3 and
 -- 5.2.25.4).
-use Rattle.std.specs.Prelude.{◌≡◌, ℕ, ◌+◌, ◌*◌, ◌/◌, ◌%◌, ◌==◌, ◌&&◌, ◌||◌, Bool, false, List, [], ◌∷◌, Option, Some, None, count_by, find, if◌then◌else◌, is_none, length, map, nat_lt, not, option_map}
+use Rattle.std.specs.Prelude.{◌≡◌, ℕ, ◌+◌, ◌*◌, ◌/◌, ◌%◌, ◌==◌, ◌&&◌, ◌||◌, Bool, false, List, [], ◌∷◌, Option, Some}
+use Rattle.std.specs.Prelude.{None, count_by, find, if◌then◌else◌, is_none, length, map, nat_lt, not, option_map}
 use Rattle.std.specs.List.{filter_map, flat_map, list_any, range_with_len}
 use Rattle.view_types.specs.declared.translation.TranslateFault.{TranslateFault}
-use Rattle.view_types.specs.declared.translation.TranslateFault.TheVariants.{NoInterleave, TooManyLines, WaysDiffer, LinesDiffer, OffsetNotLine, Ragged, NotPartition}
+use Rattle.view_types.specs.declared.translation.TranslateFault.TheVariants.{NoInterleave, TooManyLines, WaysDiffer}
+use Rattle.view_types.specs.declared.translation.TranslateFault.TheVariants.{LinesDiffer, OffsetNotLine, Ragged}
+use Rattle.view_types.specs.declared.translation.TranslateFault.TheVariants.{NotPartition}
 use Rattle.region_map.specs.declared.platform.Member.{Member}
 use Rattle.region_map.specs.declared.platform.LineTable.{LineTable}
 use Rattle.region_map.specs.declared.platform.Region.{Region}
@@ -88,7 +91,8 @@ times lines line = count_by (λ x. x == line) lines
 
 -- the first line of a period that is not exactly one of one part
 abbrev pub first_not_once : List Strand → Option ℕ
-first_not_once strands = find (λ line. not (times (all_lines strands) line == 1)) (range_with_len 0 (period_lines strands))
+first_not_once strands =
+    find (λ line. not (times (all_lines strands) line == 1)) (range_with_len 0 (period_lines strands))
 
 abbrev pub line_fault : List Strand → Option TranslateFault
 line_fault strands = option_map (λ line. NotPartition line) (first_not_once strands)

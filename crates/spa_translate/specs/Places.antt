@@ -1,5 +1,6 @@
 -- Where each line of a period stands among the lines of all parts.
-use Rattle.std.specs.Prelude.{◌≡◌, ℕ, ◌<◌, Bool, true, false, List, Option, Some, None, length, slice_index, slice_index_or, slice_set, take}
+use Rattle.std.specs.Prelude.{◌≡◌, ℕ, ◌<◌, Bool, true, false, List, Option, Some, None, length, slice_index}
+use Rattle.std.specs.Prelude.{slice_index_or, slice_set, take}
 use Rattle.spa_translate.specs.declared.places.Slot.{Slot}
 use Rattle.spa_translate.specs.declared.places.Slot.TheVariants.{Free, Once, Twice}
 use Rattle.spa_translate.specs.Faults.{times}
@@ -33,4 +34,5 @@ place_of _ = 0
 -- the line at the place of each line is this line
 pub record ArePlaces (lines : List ℕ) (total : ℕ) (places : List ℕ) : Type 0 where
   pub len : length places ≡ total
-  pub each : (line : ℕ) → line < total → (slice_index places line < total) × (slice_index lines (slice_index places line) ≡ line)
+  pub each : (line : ℕ) → line < total → (slice_index places line < total)
+      × (slice_index lines (slice_index places line) ≡ line)

@@ -1,5 +1,5 @@
--- A region as the parts that its members have in it, and the address of each byte of a part (ACPI 6.2, sections 5.2.25.3
--- and 5.2.25.4).
+-- A region as the parts that its members have in it, and the address of each byte of a part (ACPI 6.2, sections
+-- 5.2.25.3 and 5.2.25.4).
 use Rattle.std.specs.Prelude.{ℕ, ◌+◌, ◌*◌, ◌/◌, ◌%◌, List, [], ◌∷◌, length, slice_index}
 use Rattle.region_map.specs.declared.platform.Member.{Member}
 use Rattle.region_map.specs.declared.platform.LineTable.{LineTable}

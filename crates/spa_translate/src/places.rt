@@ -1,6 +1,7 @@
 //! Which line of which part stands at each line of a period.
 
-ghost use Rattle.std.specs.Prelude.{◌≡◌, ℕ, ◌*◌, ◌^◌, ◌≤◌, ◌<◌, All, EachIndex, IfOk, IfSome, MatchOption, false, length, map, replicate, slice_index, slice_index_or, true};
+ghost use Rattle.std.specs.Prelude.{◌≡◌, ℕ, ◌*◌, ◌^◌, ◌≤◌, ◌<◌, All, EachIndex, IfOk, IfSome, MatchOption, false};
+ghost use Rattle.std.specs.Prelude.{length, map, replicate, slice_index, slice_index_or, true};
 ghost use Rattle.spa_translate.specs.Faults.{all_lines};
 ghost use Rattle.spa_translate.specs.Laid.{HasFewLines};
 ghost use Rattle.spa_translate.specs.Places.{AreSlots, is_once, marked, place_of, with_place};

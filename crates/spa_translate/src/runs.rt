@@ -1,6 +1,7 @@
 //! The runs of module addresses behind a range of addresses.
 
-ghost use Rattle.std.specs.Prelude.{◌≡◌, ◌≢◌, ℕ, ◌+◌, ◌-◌, ◌*◌, ◌^◌, ◌++◌, ◌≤◌, ◌<◌, All, Contains, IfOk, MatchOption, OnOk, length, map};
+ghost use Rattle.std.specs.Prelude.{◌≡◌, ◌≢◌, ℕ, ◌+◌, ◌-◌, ◌*◌, ◌^◌, ◌++◌, ◌≤◌, ◌<◌, All, Contains, IfOk, MatchOption};
+ghost use Rattle.std.specs.Prelude.{OnOk, length, map};
 ghost use Rattle.view_types.specs.Intervals.{end_of};
 ghost use Rattle.spa_translate.specs.declared.strand.Strand.{Strand};
 ghost use Rattle.spa_translate.specs.Woven.{Woven, address_of};

@@ -4,7 +4,8 @@ ghost use Rattle.std.specs.Prelude.{◌≡◌, ◌==◌, find, IfOk, is_none, ma
 ghost use Rattle.std.specs.Option.{option_copied};
 ghost use Rattle.std.specs.List.{list_any};
 ghost use Rattle.spa_translate.specs.Woven.{linear_strand, strand_with};
-ghost use Rattle.spa_translate.specs.Faults.{has_too_many, is_linear, no_interleave, strands_of, table_named, too_many_lines, ways_differ};
+ghost use Rattle.spa_translate.specs.Faults.{has_too_many, is_linear, no_interleave, strands_of, table_named};
+ghost use Rattle.spa_translate.specs.Faults.{too_many_lines, ways_differ};
 
 use region_map::{LineTable, Member};
 use std::alloc::{AllocError, Global};

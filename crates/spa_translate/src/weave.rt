@@ -1,8 +1,10 @@
 //! A region whose addresses can be translated.
 
-ghost use Rattle.std.specs.Prelude.{◌≡◌, ◌≢◌, ◌↔◌, ℕ, ◌+◌, ◌*◌, ◌^◌, ◌≤◌, ◌<◌, EachIndex, IfErr, IfOk, IfSome, IsSome, MatchOption, None, OnOk, false, length, slice_index_or};
+ghost use Rattle.std.specs.Prelude.{◌≡◌, ◌≢◌, ◌↔◌, ℕ, ◌+◌, ◌*◌, ◌^◌, ◌≤◌, ◌<◌, EachIndex, IfErr, IfOk, IfSome, IsSome};
+ghost use Rattle.std.specs.Prelude.{MatchOption, None, OnOk, false, length, slice_index_or};
 ghost use Rattle.region_map.specs.Sound.{IsUsable};
-ghost use Rattle.spa_translate.specs.Faults.{IsRefused, first_fault, first_fault_of_strands, line_fault, lines_differ, offset_not_line, ragged, woven_of};
+ghost use Rattle.spa_translate.specs.Faults.{IsRefused, first_fault, first_fault_of_strands, line_fault, lines_differ};
+ghost use Rattle.spa_translate.specs.Faults.{offset_not_line, ragged, woven_of};
 ghost use Rattle.spa_translate.specs.Laid.{IsFit};
 ghost use Rattle.spa_translate.specs.declared.strand.Strand.{Strand};
 

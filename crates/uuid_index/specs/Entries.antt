@@ -1,5 +1,6 @@
 -- The entries of live labels, and their order.
-use Rattle.std.specs.Prelude.{◌≡◌, ℕ, ◌==◌, ◌<◌, ◌≤◌, ◌&&◌, Bool, false, true, List, count_by, length, slice_get, slice_index_or}
+use Rattle.std.specs.Prelude.{◌≡◌, ℕ, ◌==◌, ◌<◌, ◌≤◌, ◌&&◌, Bool, false, true, List, count_by, length, slice_get}
+use Rattle.std.specs.Prelude.{slice_index_or}
 use Rattle.std.specs.Cmp.Lexicographic.{slice_cmp}
 use Rattle.std.specs.List.Sorted.{IsSorted}
 use Rattle.std.specs.Option.{option_map_or}
@@ -19,7 +20,8 @@ cmp_to uuid position entry = ordering_then (slice_cmp nat_cmp entry.uuid uuid) (
 
 -- by uuid, then by position, then by slot
 abbrev pub entry_cmp : Entry → Entry → Ordering
-entry_cmp a b = ordering_then (slice_cmp nat_cmp a.uuid b.uuid) (ordering_then (nat_cmp a.position b.position) (nat_cmp a.slot b.slot))
+entry_cmp a b = ordering_then (slice_cmp nat_cmp a.uuid b.uuid)
+    (ordering_then (nat_cmp a.position b.position) (nat_cmp a.slot b.slot))
 
 abbrev pub IsOrdered : List Entry → Type 0
 IsOrdered entries = IsSorted entry_cmp entries
@@ -40,10 +42,12 @@ times uuid position entries = count_by (is_of uuid position) entries
 pub record IsStart (uuid : List ℕ) (position : ℕ) (entries : List Entry) (at : ℕ) : Type 0 where
   pub within : at ≤ length entries
   pub before : (k : ℕ) (d : Entry) → k < at → is_lt (cmp_to uuid position (slice_index_or entries k d)) ≡ true
-  pub from : (k : ℕ) (d : Entry) → at ≤ k → k < length entries → is_lt (cmp_to uuid position (slice_index_or entries k d)) ≡ false
+  pub from : (k : ℕ) (d : Entry) → at ≤ k → k < length entries
+      → is_lt (cmp_to uuid position (slice_index_or entries k d)) ≡ false
 
 -- an entry can go in here: none before it is greater, and none from here on is less
 pub record IsPlace (entry : Entry) (entries : List Entry) (at : ℕ) : Type 0 where
   pub within : at ≤ length entries
   pub before : (k : ℕ) (d : Entry) → k < at → is_lt (entry_cmp entry (slice_index_or entries k d)) ≡ false
-  pub after : (k : ℕ) (d : Entry) → at ≤ k → k < length entries → is_lt (entry_cmp (slice_index_or entries k d) entry) ≡ false
+  pub after : (k : ℕ) (d : Entry) → at ≤ k → k < length entries
+      → is_lt (entry_cmp (slice_index_or entries k d) entry) ≡ false

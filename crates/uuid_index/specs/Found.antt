@@ -11,7 +11,8 @@ use Rattle.uuid_index.specs.Entries.{times}
 -- how many of the entries are of this uuid at this position, and the slot of the only one
 abbrev pub IsFound : List ℕ → ℕ → List Entry → Found → Type 0
 IsFound uuid position entries Nowhere = times uuid position entries ≡ 0
-IsFound uuid position entries (Once slot) = (times uuid position entries ≡ 1) × Contains entries (record { uuid = uuid; position = position; slot = slot })
+IsFound uuid position entries (Once slot) = (times uuid position entries ≡ 1)
+    × Contains entries (record { uuid = uuid; position = position; slot = slot })
 IsFound uuid position entries Repeated = 2 ≤ times uuid position entries
 
 -- a live label with the uuid stands in the slot

@@ -1,7 +1,8 @@
 -- The texts of keys.
 use Rattle.std.specs.Prelude.{ℕ, List, codes}
 use Rattle.view_types.specs.declared.key.Key.{Key}
-use Rattle.view_types.specs.declared.key.Key.TheVariants.{Dimm, Region, Size, Name, Mode, SectorSize, Uuid, Namespace, Spa, Dpa, Length, Text}
+use Rattle.view_types.specs.declared.key.Key.TheVariants.{Dimm, Region, Size, Name, Mode, SectorSize, Uuid, Namespace}
+use Rattle.view_types.specs.declared.key.Key.TheVariants.{Spa, Dpa, Length, Text}
 
 abbrev pub text_of : Key → List ℕ
 text_of Dimm = codes "dimm"
