@@ -1,6 +1,0 @@
-pub mod Handles
-pub mod Known
-pub mod Started
-pub mod Finished
-pub mod Listings
-pub mod Requests

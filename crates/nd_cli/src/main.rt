@@ -1,25 +1,14 @@
 //! The program `nd`: commands over the files of a folder.
 #![tactic(auto)]
 
-mod faults;
-mod labels;
-mod runs;
-mod saying;
-mod sources;
-mod statuses;
-mod texts;
-mod top;
-mod words;
-
+use nd_top::{Status, dir, nd_top};
 use rig_trait::{FileRig, FileSource, StdSource};
-use statuses::Status;
 use std::alloc::{AllocError, Global};
 use std::env;
 use std::io::ErrorKind;
 use std::process::ExitCode;
 use std::random::RandomSource;
 use thiserror::Error;
-use top::nd_top;
 
 /// Why nothing was run, and nothing said.
 #[derive(Debug, Drop, Error)]
@@ -47,7 +36,7 @@ fn run(rt: HostRuntime) -> Result<u8, StartFault> {
     let alloc = rt.alloc();
     let words = words_of(&rt, alloc)?;
     let seed = draw_seed(&rt)?;
-    let dir = words::dir(&words);
+    let dir = dir(&words);
     let mut rig = FileRig::new(rt, alloc, dir)?;
     let mut nfit = FileSource::new(rt, alloc, &format!(in alloc; "{dir}/nfit.bin")?)?;
     let mut input = StdSource::new(rt.stdin());
@@ -74,6 +63,3 @@ fn draw_seed(rt: &HostRuntime) -> Result<u128, StartFault> {
         Err(_) => Err(StartFault::Seed),
     }
 }
-
-#[cfg(test)]
-mod tests;

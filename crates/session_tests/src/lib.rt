@@ -1,8 +1,6 @@
-//! Tests of sessions, and of lists of command lines on them.
+//! Tests of sessions.
 #![tactic(auto)]
 
-#[cfg(test)]
-mod lists;
 #[cfg(test)]
 mod stops;
 #[cfg(test)]

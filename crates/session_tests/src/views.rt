@@ -1,31 +1,37 @@
 //! What a session shows of its platform.
 
-use crate::lists;
 use crate::stops::{LATER, OTHER, PART, Setting, create, handle, rig_of, run, uuid_of};
+use rig_trait::MemoryRig;
 use std::test::Fail;
-use test_areas::LABEL;
+use test_areas::{LABEL, small_area};
 use view_types::{AreaState, ModuleView, RegionView, Status, View};
 
-/// The region of two modules, of which the first one's area is not initialised, and both modules.
+/// A region of two modules, of which one is not initialised and the other one is missing.
 #[test]
 fn unready(rt: HostRuntime) -> Result<(), Fail> {
-    let mut rig = lists::new_rig(rt.alloc())?;
-    let Some(session) = lists::start(rt.alloc(), &mut rig)? else {
+    let alloc = rt.alloc();
+    let setting = Setting::of(alloc, 2)?;
+    let mut rig = MemoryRig::new(alloc, 0)?;
+    rig.add(handle(0), small_area(alloc, &[[0; 256]; 4])?)?;
+    let Ok(session) = setting.start(alloc, &mut rig) else {
         return Err(Fail::from("no session"));
     };
-    let view = session.view(rt.alloc())?;
-    let [region] = view.regions.as_slice() else {
+    let view = session.view(alloc)?;
+    let [region, _] = view.regions.as_slice() else {
         return Err(Fail::from("another number of regions"));
     };
     let state = AreaState::Uninit;
-    assert_eq!(rt; region.status, Status::Area { dimm: 1, state });
+    let dimm = handle(0);
+    assert_eq!(rt; region.status, Status::Area { dimm, state });
     assert_eq!(rt; (region.namespaces.len(), region.free.len()), (0, 0));
-    let [first, second] = view.modules.as_slice() else {
+    let [first, second, _] = view.modules.as_slice() else {
         return Err(Fail::from("another number of modules"));
     };
-    assert_eq!(rt; (first.dimm, first.state), (1, state));
-    let ready = AreaState::Ready { slots: 2, spare: 2 };
-    assert_eq!(rt; (second.dimm, second.state), (0x101, ready));
+    assert_eq!(rt; (first.dimm, first.state), (dimm, state));
+    assert_eq!(rt;
+        (second.dimm, second.state),
+        (handle(1), AreaState::Missing)
+    );
     Ok(())
 }
 

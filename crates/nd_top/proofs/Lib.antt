@@ -1,0 +1,6 @@
+pub mod Handles
+pub mod Known
+pub mod Started
+pub mod Finished
+pub mod Listings
+pub mod Requests

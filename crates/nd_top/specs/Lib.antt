@@ -1,0 +1,10 @@
+pub mod Words
+pub mod Texts
+pub mod Statuses
+pub mod Faults
+pub mod Saying
+pub mod Sources
+pub mod Labels
+pub mod Stops
+pub mod Runs
+pub mod Ends

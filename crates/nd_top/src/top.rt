@@ -1,0 +1,102 @@
+//! One run, from the words to what is said and the status.
+
+ghost use Rattle.std.specs.Prelude.{◌≡◌, Some};
+ghost use Rattle.rig_trait.specs.Frames.{GoesOn};
+ghost use Rattle.nd_top.specs.Ends.{AsksNothing, Ends, EndsInput, EndsLine, NeedsInput, NeedsNfit, RefusesNfit};
+ghost use Rattle.nd_top.specs.Words.{DoLine, RunInput, asked};
+
+use crate::faults::{Fault, SourceName};
+use crate::labels::say_labels;
+use crate::runs::run_on;
+use crate::saying::say_fault;
+use crate::sources::{read_all, read_platform};
+use crate::words::Request;
+use command_runs::lines_of;
+use rig_trait::{Rig, Source};
+use std::alloc::Global;
+
+/// Does what the words ask for.
+///
+/// The form `run` does the command of each line of the input, and says its reply before the next line is looked at. The
+/// whole NFIT is read first, then the whole input, and then the areas of all modules. `do` is a run of one line, the
+/// words behind the folder, and does not read the input. `labels` reads the area of one module alone, and says the
+/// listing of its labels. A new namespace for which its command gives no uuid gets one that is made from the seed and
+/// the number of its line.
+///
+/// The first fault ends the run, and its line is said last; where a reply could not be said whole nothing more is said.
+/// The status is 0 where all was done and no reply was a refusal, and 1 where one was; 2 where the words are no form, 3
+/// where the NFIT is none, 4 where the rig failed at an area, 5 where a source failed or has more than 1,048,576 bytes,
+/// 6 where memory was refused, and 7 where a text could not be said whole.
+pub fn nd_top<R: Rig, N: Source, I: Source>(
+    alloc: Global,
+    words: &[String],
+    rig: &mut R,
+    nfit: &mut N,
+    input: &mut I,
+    seed: u128,
+) -> u8
+    ensures ends { Ends R.Shown N.Source I.Source seed (asked words.now) rig.old rig.new nfit.old nfit.new
+        input.old input.new result }
+
+    // The NFIT is read first, and only for lines; where it is not accepted nothing else is read.
+    ensures nfit_first { RefusesNfit N.Source (asked words.now) nfit.old → AsksNothing R.Shown rig.old rig.new }
+    ensures input_behind { RefusesNfit N.Source (asked words.now) nfit.old → input.new ≡ input.old }
+    ensures nfit_unread { ¬ NeedsNfit (asked words.now) → nfit.new ≡ nfit.old }
+    ensures input_unread { ¬ NeedsInput (asked words.now) → input.new ≡ input.old }
+
+    ensures goes_on { GoesOn R.Shown rig.old rig.new }
+{
+    match Request::of(alloc, words) {
+        Ok(None) => say_fault(rig, Fault::Words),
+        Ok(Some(Request::Labels { dimm })) => say_labels(alloc, rig, dimm),
+        Ok(Some(Request::Line(line))) => do_line(alloc, &line, rig, nfit, seed),
+        Ok(Some(Request::Input)) => run_input(alloc, rig, nfit, input, seed),
+        Err(_) => say_fault(rig, Fault::Memory),
+    }
+}
+
+/// Does one line.
+fn do_line<R: Rig, N: Source>(
+    alloc: Global,
+    line: &str,
+    rig: &mut R,
+    nfit: &mut N,
+    seed: u128,
+) -> u8
+    ensures ends { EndsLine R.Shown N.Source seed line.now rig.old rig.new nfit.old nfit.new result }
+    ensures nfit_first { RefusesNfit N.Source (Some (DoLine line.now)) nfit.old → AsksNothing R.Shown rig.old rig.new }
+    ensures goes_on { GoesOn R.Shown rig.old rig.new }
+{
+    match read_platform(alloc, nfit) {
+        Ok(platform) => run_on(alloc, rig, platform, &[line.as_bytes()], seed),
+        Err(fault) => say_fault(rig, fault),
+    }
+}
+
+/// Does the lines of the input.
+fn run_input<R: Rig, N: Source, I: Source>(
+    alloc: Global,
+    rig: &mut R,
+    nfit: &mut N,
+    input: &mut I,
+    seed: u128,
+) -> u8
+    ensures ends { EndsInput R.Shown N.Source I.Source seed rig.old rig.new nfit.old nfit.new
+        input.old input.new result }
+    ensures nfit_first { RefusesNfit N.Source (Some RunInput) nfit.old → AsksNothing R.Shown rig.old rig.new }
+    ensures input_behind { RefusesNfit N.Source (Some RunInput) nfit.old → input.new ≡ input.old }
+    ensures goes_on { GoesOn R.Shown rig.old rig.new }
+{
+    let platform = match read_platform(alloc, nfit) {
+        Ok(platform) => platform,
+        Err(fault) => return say_fault(rig, fault),
+    };
+    let bytes = match read_all(alloc, input) {
+        Ok(bytes) => bytes,
+        Err(fault) => return say_fault(rig, Fault::of(SourceName::Input, fault)),
+    };
+    match lines_of(alloc, &bytes) {
+        Ok(lines) => run_on(alloc, rig, platform, &lines, seed),
+        Err(_) => say_fault(rig, Fault::Memory),
+    }
+}
