@@ -12,8 +12,9 @@ import sys
 import tempfile
 from pathlib import Path
 
-from check_creates import U1, U2, create, created
-from check_lists import FIRST, PAIR, ROOT, image as images, run as do, space
+from check_changes import destroy, destroyed
+from check_creates import U1, U2, U3, U4, U5, create, created
+from check_lists import FIRST, PAIR, PART, ROOT, both, free, image as images, pair, run as do, space
 from check_random import image, questions
 from check_steps import SLOTS, line_of
 from platform_images import MIB, area, write
@@ -76,8 +77,40 @@ def by_hand():
     )
 
 
+def behind_a_destroy():
+    """Images, and rows of one list: the space of a namespace is free at once, but where a label holds it."""
+    shown = "list-free region=1"
+    yield images([], []), [
+        (create("4M", U1), created(U1, 0, 4 * MIB, 509)),
+        (create("4M", U2), created(U2, 2 * MIB, 4 * MIB, 508)),
+        (destroy(U1), destroyed(U1)),
+        (shown, free((0, 2 * MIB), (4 * MIB, PART - 4 * MIB), largest=2 * PART - 8 * MIB)),
+        (create("8M", U4), created(U4, 4 * MIB, 8 * MIB, 508)),
+        (create("4M", U5), created(U5, 0, 4 * MIB, 507)),
+        (destroy(U2), destroyed(U2)),
+        (destroy(U4), destroyed(U4)),
+        (shown, free((2 * MIB, PART - 2 * MIB), largest=2 * PART - 4 * MIB)),
+    ]
+    first, second = both(U1, 0, 2 * MIB)
+    rest = free((0, MIB), (3 * MIB, PART - 3 * MIB), largest=2 * PART - 8 * MIB)
+    yield images([first, pair(U3, MIB, 2 * MIB, 0)], [second]), [
+        (shown, free((3 * MIB, PART - 3 * MIB), largest=2 * PART - 8 * MIB)),
+        (destroy(U1), destroyed(U1)),
+        (shown, rest),
+        (create("4M", U2), created(U2, 4 * MIB, 4 * MIB, 508)),
+        (destroy(U2), destroyed(U2)),
+        (shown, rest),
+    ]
+
+
 def check_by_hand(program: str, scratch: Path) -> tuple:
     wrong = rows = 0
+    for number, (made, answers) in enumerate(behind_a_destroy()):
+        rows += 1
+        folder = Path(scratch, f"destroy{number}")
+        write(folder, *made)
+        lines, said = "\n".join(line for line, _ in answers), "".join(text for _, text in answers)
+        wrong += differs(f"behind a destroy, {number}", run(program, folder, lines.encode()), (0, said.encode()))
     for number, (lines, status, said) in enumerate(by_hand()):
         rows += 1
         folder = Path(scratch, f"hand{number}")
