@@ -19,8 +19,8 @@ use std::alloc::{AllocError, Global};
 use std::marker::{Brand, Model};
 use std::sync::ledger::{Blank, Ledger};
 
-/// The free extents of each region, or none: a held label that goes, or a namespace for whose range there is no room,
-/// gives back space, so that they are not known from then on, until they are built anew.
+/// The free extents of each region, or none: held labels that go give back space, and so does a namespace whose range
+/// may not have been its alone or has no room here. Then they are not known, until they are built anew.
 #[derive(Drop)]
 pub(crate) struct FreeExtents {
     each: Option<Vec<Extents>>,

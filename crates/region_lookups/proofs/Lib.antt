@@ -5,3 +5,4 @@ pub mod Neighbours
 pub mod Standing
 pub mod Pendings
 pub mod Reached
+mod Passing

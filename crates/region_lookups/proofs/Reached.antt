@@ -26,7 +26,8 @@ reaches-at base o range l low high has =
     let parts = and_parts _ _ has in
     let from : l.dpa ≤ base + o = le_true _ _ parts.0 in
     let to : base + o < l.dpa + l.raw_size = lt_true _ _ parts.1 in
-    and_from _ _ (lt_from l.dpa (base + range.start + range.len) (omega (arith, low, high, from))) (lt_from (base + range.start) (l.dpa + l.raw_size) (omega (arith, low, to)))
+    and_from _ _ (lt_from 0 l.raw_size (omega (arith, from, to)))
+    (and_from _ _ (lt_from l.dpa (base + range.start + range.len) (omega (arith, low, high, from))) (lt_from (base + range.start) (l.dpa + l.raw_size) (omega (arith, low, to))))
 
 module _ (P : Platform) (L : Labels) (r : Region) (range : Extent) (apart : is_reached P L r range ≡ false) where
   free-of : (o : ℕ) → range.start ≤ o → o < range.start + range.len → (x : Member) → Contains r.members x → holds P L o x ≡ false

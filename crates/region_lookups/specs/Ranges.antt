@@ -12,10 +12,10 @@ use Rattle.label_table.specs.Fates.{is_held}
 use Rattle.label_table.specs.Spaces.{Space, space}
 use Rattle.region_sets.specs.Ranges.{range_of}
 
--- a label's range and a range of the part that begins at an address have an address in common
+-- a label's range has an address of a range of the part that begins at `base`, which is not empty
 abbrev pub reaches : ℕ → Extent → Label → Bool
-reaches base range label =
-    nat_lt label.dpa (base + range.start + range.len) && nat_lt (base + range.start) (label.dpa + label.raw_size)
+reaches base range label = nat_lt 0 label.raw_size
+    && (nat_lt label.dpa (base + range.start + range.len) && nat_lt (base + range.start) (label.dpa + label.raw_size))
 
 -- and the label is held
 abbrev pub holds_part : Platform → Labels → ℕ → ℕ → Extent → Label → Bool

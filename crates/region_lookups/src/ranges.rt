@@ -108,7 +108,7 @@ fn holds_part(
     }
 }
 
-/// A label's range and a range of the part that begins at an address have an address in common.
+/// A label's range has an address of a range of the part that begins at `base`, which is not empty.
 fn reaches(base: u64, range: &Extent, label: &Label) -> bool
     ensures { result ≡ reaches base range.now label.now }
 {
@@ -116,5 +116,5 @@ fn reaches(base: u64, range: &Extent, label: &Label) -> bool
     let end = start + u128::from(range.len);
     let from = u128::from(label.dpa);
     let to = from + u128::from(label.raw_size);
-    from < end && start < to
+    label.raw_size > 0 && from < end && start < to
 }

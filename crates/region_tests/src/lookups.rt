@@ -233,7 +233,8 @@ fn slots(rt: HostRuntime) -> Result<(), Fail> {
     Ok(())
 }
 
-/// A namespace has its range alone where no held label has an address of it. A dead label takes nothing from it.
+/// A namespace has its range alone where no held label has an address of it. A dead label takes nothing from it, nor
+/// does one without a length.
 #[test]
 fn lone_ranges(rt: HostRuntime) -> Result<(), Fail> {
     let alloc = rt.alloc();
@@ -241,15 +242,20 @@ fn lone_ranges(rt: HostRuntime) -> Result<(), Fail> {
         start: 2 * MIB,
         len: 2 * MIB,
     };
-    for (held, want) in [
-        (0, Some(range)),
-        (1, None),
-        (4 * MIB - 1, None),
-        (4 * MIB, Some(range)),
+    for (dpa, raw_size, want) in [
+        (0, 2 * MIB, Some(range)),
+        (1, 2 * MIB, None),
+        (4 * MIB - 1, 2 * MIB, None),
+        (4 * MIB, 2 * MIB, Some(range)),
+        (3 * MIB, 0, Some(range)),
     ] {
         let dead = updating(label(0x14, 0, 2 * MIB));
         let first = [label(0x13, 0, 2 * MIB), dead];
-        let second = [label(0x13, 1, 2 * MIB), label(0x15, 1, held)];
+        let held = LabelFields {
+            raw_size,
+            ..label(0x15, 1, dpa)
+        };
+        let second = [label(0x13, 1, 2 * MIB), held];
         let modules = modules(alloc, &first, &second, &[])?;
         let regions = [kept(alloc, &modules)?];
         let lone = |last| lone_range(&modules, &regions, &regions[0], &uuid(last));
