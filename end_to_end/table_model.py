@@ -38,9 +38,12 @@ class Table:
     def __init__(self, regions: list, modules: dict):
         self.regions = sorted(regions, key=lambda region: region.index)
         self.modules = modules
+        self.known = {}
 
     def rule(self, region: Region) -> str:
-        """Of the rules, those that the images here can break."""
+        """The rule that is known, or else, of the rules, those that the images of the other checks can break."""
+        if region.rule is not None:
+            return region.rule
         if len({part.size for part in region.mappings}) > 1:
             return "sizes-differ"
         if region.length is not None and region.length != sum(part.size for part in region.mappings):
@@ -48,7 +51,7 @@ class Table:
         return ""
 
     def members(self, region: Region) -> list:
-        return sorted(region.mappings, key=lambda part: part.offset)
+        return region.members
 
     def belongs(self, region: Region, handle: int, label: Label) -> bool:
         members = self.members(region)
@@ -74,7 +77,13 @@ class Table:
         return any(len(self.with_uuid(part.handle, number)) > 1 for part in region.mappings)
 
     def namespace(self, region: Region, number: str):
-        """The labels of a namespace by position, or None."""
+        """The label of position 0 of a namespace, its offset and the flags of all its labels, or None."""
+        key = region.index, number
+        if key not in self.known:
+            self.known[key] = self.found_namespace(region, number)
+        return self.known[key]
+
+    def found_namespace(self, region: Region, number: str):
         if self.rule(region) or not self.all_ready(region):
             return None
         labels = []

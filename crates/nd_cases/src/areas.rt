@@ -2,8 +2,7 @@
 
 ghost use Rattle.std.specs.Prelude.{◌≡◌, IfSome, IsSome, IsTrue};
 ghost use Rattle.std.specs.FinMap.{get};
-ghost use Rattle.std.specs.List.{All};
-ghost use Rattle.label_area.specs.Flips.{IsSized, is_used};
+ghost use Rattle.label_area.specs.Flips.{IsSized};
 
 use crate::fault::Fault;
 use crate::setting::Setting;

@@ -7,13 +7,16 @@ use crate::words::{bytes, short_number, text};
 use index_block::{count_free, first_free, is_free, set_free, set_used};
 use std::alloc::Global;
 
+/// The longest bitmap that a case gives.
+const MOST_BYTES: usize = 4096;
+
 /// A bitmap, and how many slots it is of.
 fn bitmap(alloc: Global, slots: &str, map: &str) -> Result<(u32, Vec<u8>), Fault>
     ensures { IfOk result (λ found. found.0 ≤ 8 * vec_len found.1) }
 {
     let slots = short_number(slots)?;
     let map = bytes(alloc, map)?;
-    if u64::from(slots) > 8 * map.len() as u64 {
+    if map.len() > MOST_BYTES || slots as usize > 8 * map.len() {
         return Err(Fault::Refused);
     }
     Ok((slots, map))

@@ -2,7 +2,7 @@
 
 ghost use Rattle.std.specs.Prelude.{◌≡◌, IfOk};
 ghost use Rattle.index_block.specs.Geometry.{IsGeometry};
-ghost use Rattle.index_block.specs.Blocks.{IsSeq};
+ghost use Rattle.index_block.specs.Current.{IsSeq};
 
 use crate::areas::place_digit;
 use crate::fault::Fault;
