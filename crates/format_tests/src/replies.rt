@@ -283,7 +283,7 @@ size=4194304 spare=508\n";
     let text = "ok renamed uuid=0f6b1a52-7c3e-4d28-9a41-5be0c7d2e813 \
 name=%25%22%20%E9xxxxxxxxxxxxxxxxxxxxxxxxxxxxxxxxxxxxxxxxxxxxxxxxxxxxxxxxxxxx\n";
     says_alone(&rt, &reply, text);
-    says_alone(&rt, &Reply::Released { labels: 2 }, "ok released=2\n");
+    says_alone(&rt, &Reply::Released { count: 2 }, "ok released=2\n");
 }
 
 #[test]

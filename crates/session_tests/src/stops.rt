@@ -885,7 +885,7 @@ fn released(
     let last = handle(setting.ways.saturating_sub(1));
     rig.add(last, ready_area(alloc, 1, &[0xee; 256])?)?;
     let done = Done::of(alloc, setting, rig, command)?;
-    assert!(rt; matches!(done.reply, Reply::Released { labels: 1 }));
+    assert!(rt; matches!(done.reply, Reply::Released { count: 1 }));
     assert!(rt; held_in(&done.before, 0) == 1 && held_in(&done.after, 0) == 0);
     assert!(rt; held_in(&done.after, 1) == usize::from(setting.ways > 2));
     Ok(done)

@@ -265,7 +265,7 @@ fn given_up(alloc: Global, first: &[Stored], second: Option<&[Stored]>) -> Resul
         Err(_) => return Err("no state".into()),
     };
     match release_held(alloc, &mut rig, &platform, &mut sets, 0x1, &UUID_20) {
-        Ok(Reply::Released { labels: 1 }) => Ok(sets),
+        Ok(Reply::Released { count: 1 }) => Ok(sets),
         _ => Err("nothing is given up".into()),
     }
 }
