@@ -13,8 +13,6 @@ mod platforms;
 #[cfg(test)]
 mod replies;
 #[cfg(test)]
-mod sessions;
-#[cfg(test)]
 mod states;
 #[cfg(test)]
 mod steps;
@@ -26,3 +24,5 @@ mod two_modules;
 mod two_ways;
 #[cfg(test)]
 mod uuids;
+#[cfg(test)]
+mod views;
