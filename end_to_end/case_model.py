@@ -257,7 +257,7 @@ class Cases:
         self.call(f"init {dimm:x}", make, told)
 
     def vacant(self, dimm: int, size: int, told: str = None) -> None:
-        self.ask(f"vacant {dimm:x} {size:x}", self.look("load", area(size)) if is_size(size) else "vacant none", told and f"load {told}")
+        self.ask(f"vacant {dimm:x} {size:x}", self.look("load", area(size)) if is_size(size) else "load none", told and f"load {told}")
 
     # Formats.
 
