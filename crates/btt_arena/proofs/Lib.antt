@@ -6,3 +6,7 @@ pub mod Undoing
 pub mod Keeping
 pub mod Entries
 pub mod Stopping
+pub mod Infos
+pub mod Layouts
+pub mod Changes
+pub mod Fresh

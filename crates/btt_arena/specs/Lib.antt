@@ -6,3 +6,8 @@ pub mod Undone
 pub mod Crashed
 pub mod InKept
 pub mod InMemory
+pub mod Layout
+pub mod Info
+pub mod Tables
+pub mod Arena
+pub mod Formatting
