@@ -10,3 +10,4 @@ pub mod Infos
 pub mod Layouts
 pub mod Changes
 pub mod Fresh
+pub mod Parts

@@ -93,8 +93,8 @@ Formats sector before (Err fault.Already) = IsSome (arena_in before)
 Formats sector before (Err fault.Failed) = Unit {0}
 
 -- the media failed
-abbrev pub is_format_failed : Result ℕ FormatFault → Bool
-is_format_failed (Ok sectors) = false
+abbrev pub is_format_failed : {T : Type 0} → Result T FormatFault → Bool
+is_format_failed (Ok value) = false
 is_format_failed (Err (fault.Size size)) = false
 is_format_failed (Err fault.Already) = false
 is_format_failed (Err fault.Failed) = true
