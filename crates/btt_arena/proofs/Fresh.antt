@@ -1,5 +1,5 @@
 -- An arena that was just made is sound, and each sector holds the bytes of its own block.
-use Rattle.std.proofs.Common.{◌≡◌, ℕ, zero, suc, ◌+◌, ◌-◌, ◌*◌, ◌%◌, ◌^◌, ◌<◌, ◌≤◌, Bool, true, false, List, length, take, drop, Option, Some, refl, sym, ap, subst, ◌∙◌, ◌⊎◌, inl, inr, arith, eq-eqb, rules}
+use Rattle.std.proofs.Common.{◌≡◌, ℕ, zero, suc, ◌+◌, ◌-◌, ◌*◌, ◌%◌, ◌^◌, ◌<◌, ◌≤◌, Bool, true, false, List, ◌++◌, length, take, drop, Option, Some, refl, sym, ap, subst, ◌∙◌, ◌⊎◌, inl, inr, arith, eq-eqb, rules}
 use Rattle.std.specs.Prelude.{replicate, nat_lt}
 use Rattle.std.specs.Option.{option_map_or}
 use Rattle.std.proofs.lemmas.Bool.{cases_lt}
@@ -7,7 +7,9 @@ use Rattle.std.proofs.lemmas.Bool.Decides.{nat_tests}
 use Rattle.std.proofs.lemmas.List.{drop-drop, drop-take, drop-replicate, take-take}
 use Rattle.std.proofs.Math.Nat.{mul-le-mul_left}
 use Rattle.byteorder.specs.Numbers.{little_number-reads_back}
-use Rattle.byte_ranges.specs.Ranges.{range, number_at}
+use Rattle.byteorder.specs.Endian.{little_bytes}
+use Rattle.byte_ranges.specs.Ranges.{range, number_at, patched}
+use Rattle.byte_ranges.proofs.Patched.{range-patched_before, range-patched_in}
 use Rattle.byte_ranges.proofs.Numbers.{number_at-take}
 use Rattle.btt_arena.specs.declared.layout.Layout.{Layout}
 use Rattle.btt_arena.specs.Arena.{AreEachOnce, HasNewer, IsSound, block_at, block_bytes, content, held_by, holds}
@@ -153,3 +155,23 @@ fresh_of a before bytes layout map log info stays =
         let le : suc sector ≤ blocks = omega arith in
         let more : size * suc sector ≤ size * blocks = mul-le-mul_left size le in
         omega (arith, more)
+
+-- a lane, put into zeros word by word
+pub lane_put : (lane block : ℕ) → patched (patched (patched (patched (replicate 64 0) 0 (little_bytes 4 lane)) 4 (little_bytes 4 block)) 8 (little_bytes 4 block)) 12 (little_bytes 4 1)
+    ≡ little_bytes 4 lane ++ little_bytes 4 block ++ little_bytes 4 block ++ little_bytes 4 1 ++ replicate 48 0
+unfolding patched
+lane_put lane block = refl
+
+-- one lane more
+pub lane_more : (log log' text : List ℕ) (sectors count : ℕ) → 64 * count + 64 ≤ length log → length text ≡ 64 → ((lane : ℕ) → lane < count → range log (64 * lane) 64 ≡ fresh_lane sectors lane)
+    → log' ≡ patched log (64 * count) text → text ≡ fresh_lane sectors count → (lane : ℕ) → lane < count + 1 → range log' (64 * lane) 64 ≡ fresh_lane sectors lane
+lane_more log log' text sectors count inside long before is text_is lane below = elim (cases_lt lane count) [
+  | inl earlier ↦
+      ap (λ (b : List ℕ). range b (64 * lane) 64) is
+      ∙ range-patched_before log text (64 * count) (omega arith) (64 * lane) 64 (omega arith) ∙ before lane earlier
+  | inr last ↦
+      let same : lane ≡ count = omega arith in
+      ap (λ (b : List ℕ). range b (64 * lane) 64) is
+      ∙ (λ i. range (patched log (64 * count) text) (64 * same i) (sym long i))
+      ∙ range-patched_in log text (64 * count) (omega arith) ∙ text_is ∙ ap (fresh_lane sectors) (sym same)
+]

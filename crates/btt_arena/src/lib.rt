@@ -5,6 +5,7 @@
 mod format;
 mod info;
 mod kept_writes;
+mod lanes;
 mod layout;
 mod media;
 mod memory;
