@@ -127,7 +127,7 @@ module _ (a : Layout) (bytes : List ℕ) (fits : Fits a) (map : HasFreshMap a by
   }
 
 -- a range within a range
-range-range : (bytes : List ℕ) (from n k m : ℕ) → k + m ≤ n → range (range bytes from n) k m ≡ range bytes (from + k) m
+pub range-range : (bytes : List ℕ) (from n k m : ℕ) → k + m ≤ n → range (range bytes from n) k m ≡ range bytes (from + k) m
 range-range bytes from n k m fits =
     let e : k + (n - k) ≡ n = omega arith in
     let cut = subst (λ (l : ℕ). drop k (take l (drop from bytes)) ≡ take (n - k) (drop k (drop from bytes))) e (drop-take k (n - k) (drop from bytes)) in

@@ -11,3 +11,4 @@ pub mod Layouts
 pub mod Changes
 pub mod Fresh
 pub mod Parts
+pub mod Stages

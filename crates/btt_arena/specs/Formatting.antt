@@ -4,8 +4,8 @@ use Rattle.std.specs.Prelude.{Option, None, Some, Result, Ok, Err, IsSome}
 use Rattle.byteorder.specs.Endian.{little_bytes}
 use Rattle.byte_ranges.specs.Ranges.{range}
 use Rattle.btt_arena.specs.declared.layout.Layout.{Layout}
-use Rattle.btt_arena.specs.declared.format.FormatFault.{FormatFault}
-use Rattle.btt_arena.specs.declared.format.FormatFault.TheVariants as fault
+use Rattle.btt_arena.specs.declared.formats.FormatFault.{FormatFault}
+use Rattle.btt_arena.specs.declared.formats.FormatFault.TheVariants as fault
 use Rattle.btt_arena.specs.Arena.{IsSound, block_bytes, content, holds}
 use Rattle.btt_arena.specs.Info.{arena_in, first_info, info_bytes, info_text, second_info, told_layout}
 use Rattle.btt_arena.specs.Layout.{data_at, is_size, lane_count, layout_of}
@@ -84,6 +84,11 @@ IsFair c = IsFairTorn c.bytes c.torn
 abbrev pub IsNoneOrFresh : Layout → List ℕ → CrashRecord → Type 0
 IsNoneOrFresh a before c = IsFair c → (arena_in c.bytes ≡ None) ⊎ IsFresh a before c.bytes
 
+-- what a stop leaves at each moment
+pub record IsStage (a : Layout) (uuid before : List ℕ) (c : CrashRecord) : Type 0 where
+  pub order : IsInOrder a uuid before c.bytes
+  pub made : arena_in before ≡ None → IsNoneOrFresh a before c
+
 -- why a media is not formatted, or how many sectors there are
 abbrev pub Formats : ℕ → List ℕ → Result ℕ FormatFault → Type 0
 Formats sector before (Ok sectors) = (is_size (length before) ≡ true) × (arena_in before ≡ None)
@@ -98,3 +103,10 @@ is_format_failed (Ok value) = false
 is_format_failed (Err (fault.Size size)) = false
 is_format_failed (Err fault.Already) = false
 is_format_failed (Err fault.Failed) = true
+
+-- nothing was written, for want of a size or since there is an arena
+abbrev pub IsRefused : {T : Type 0} → Result T FormatFault → Type 0
+IsRefused (Ok value) = ⊥
+IsRefused (Err (fault.Size size)) = Unit {0}
+IsRefused (Err fault.Already) = Unit {0}
+IsRefused (Err fault.Failed) = ⊥

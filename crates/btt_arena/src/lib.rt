@@ -2,7 +2,7 @@
 //! table; and the media that holds the bytes, as a trait with a form in memory.
 #![tactic(auto)]
 
-mod format;
+mod formats;
 mod info;
 mod kept_writes;
 mod lanes;
@@ -11,8 +11,23 @@ mod media;
 mod memory;
 mod state;
 
-pub use format::FormatFault;
+pub use formats::{FormatFault, format};
 pub use layout::Layout;
 pub use media::Media;
 pub use memory::MemoryMedia;
 pub use state::MediaState;
+
+#[cfg(test)]
+mod tests {
+    use super::{FormatFault, MemoryMedia, format};
+    use std::test::Fail;
+
+    #[test]
+    fn formats_once(rt: HostRuntime) -> Result<(), Fail> {
+        let bytes = vec![in rt.alloc(); 0; 16_777_216]?;
+        let mut media = MemoryMedia::new(rt.alloc(), bytes);
+        assert_eq!(rt; format(&mut media, 512, &[7; 16]), Ok(32_202));
+        assert_eq!(rt; format(&mut media, 512, &[7; 16]), Err(FormatFault::Already));
+        Ok(())
+    }
+}

@@ -2,7 +2,7 @@ use Rattle.std.proofs.Common.{◌≡◌, ◌≤◌, ◌-◌, ◌%◌, false}
 use Rattle.btt_arena.specs.Formatting.{AreZero, ChangesOnly}
 use Rattle.btt_arena.specs.Frames.{Fails, GoesOn, IsTold, LeavesOnly}
 use Rattle.btt_arena.specs.Records.{CrashRecord}
-use Rattle.btt_arena.proofs.format.write_map.Given as goal
+use Rattle.btt_arena.proofs.formats.write_map.Given as goal
 
 abbrev pub invariant-loop-at : goal.invariant-loop-at
 invariant-loop-at g l = record {

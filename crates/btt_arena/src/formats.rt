@@ -4,14 +4,16 @@ ghost use Rattle.std.specs.Prelude.{◌≡◌, ◌⊎◌, ◌+◌, ◌-◌, ◌*
 ghost use Rattle.std.specs.Prelude.{IfSome, OnOk, replicate};
 ghost use Rattle.std.specs.Result.{is_err};
 ghost use Rattle.byte_ranges.specs.Ranges.{range};
-ghost use Rattle.btt_arena.specs.declared.format.FormatFault.TheVariants.{Failed};
-ghost use Rattle.btt_arena.specs.Formatting.{ChangesOnly, Formats, HasFreshMap, HasFreshLog, fresh_lane, is_format_failed};
+ghost use Rattle.btt_arena.specs.declared.formats.FormatFault.TheVariants.{Failed};
+ghost use Rattle.btt_arena.specs.Formatting.{ChangesOnly, Formats, HasFreshMap, IsFormatted, IsInOrder, IsNoneOrFresh};
+ghost use Rattle.btt_arena.specs.Formatting.{IsRefused, IsStage, is_format_failed};
 ghost use Rattle.btt_arena.specs.Frames.{IsTold, Reads, GoesOn, Fails, LeavesOnly};
 ghost use Rattle.btt_arena.specs.Info.{arena_in};
 ghost use Rattle.btt_arena.specs.Layout.{IsLayout, is_sector, is_size, layout_of};
 
 use crate::Media;
-use crate::info::{INFO_BYTES, told_layout};
+use crate::info::{INFO_BYTES, info_block, told_layout};
+use crate::lanes::fresh_log;
 use crate::layout::{Layout, is_size};
 
 /// Why a media isn't formatted.
@@ -33,8 +35,58 @@ impl From<rig_trait::Failed> for FormatFault {
     }
 }
 
+/// Makes an arena in a media that has none, with sectors of `sector` bytes, which are 512 or 4,096, and answers the number
+/// of its sectors. It writes the map, the lanes, the info block at `info_at` and that at 0, in this order; the data stay.
+pub fn format<M: Media>(media: &mut M, sector: u32, uuid: &[u8; 16]) -> Result<u32, FormatFault>
+    requires { IsTrue (is_sector sector) }
+    ensures answer { IsTold M.MediaState media.old → Formats sector (M.bytes media.old) result }
+    ensures formatted { IsTold M.MediaState media.old → OnOk result
+        (IsFormatted (layout_of (length (M.bytes media.old)) sector) uuid.now (M.bytes media.old) (M.bytes media.new)) }
+
+    // Whatever the answer, by a stop at any moment.
+    ensures in_order { IsTold M.MediaState media.old → LeavesOnly M.MediaState media.old media.new
+        (λ c. IsInOrder (layout_of (length (M.bytes media.old)) sector) uuid.now (M.bytes media.old) c.bytes) }
+    ensures any_moment { IsTold M.MediaState media.old → arena_in (M.bytes media.old) ≡ None
+        → LeavesOnly M.MediaState media.old media.new
+        (IsNoneOrFresh (layout_of (length (M.bytes media.old)) sector) (M.bytes media.old)) }
+
+    // Where it refuses to, or there is an arena, it has written nothing.
+    ensures refused { IsRefused result → Reads M.MediaState media.old media.new }
+    ensures kept { IsTold M.MediaState media.old → IsSome (arena_in (M.bytes media.old))
+        → Reads M.MediaState media.old media.new }
+    ensures goes_on { GoesOn M.MediaState media.old media.new }
+    ensures cause { Fails M.MediaState media.old media.new (is_format_failed result) }
+{
+    let layout = vacant_layout(media, sector)?;
+    write_parts(media, &layout, uuid)?;
+    Ok(layout.sectors)
+}
+
+/// Writes the parts of an arena, one after the other.
+fn write_parts<M: Media>(
+    media: &mut M,
+    layout: &Layout,
+    uuid: &[u8; 16],
+) -> Result<(), rig_trait::Failed>
+    requires layout { IsLayout layout.now }
+    requires told { IsTold M.MediaState media.old → length (M.bytes media.old) ≡ layout.now.size }
+    ensures formatted { IsTold M.MediaState media.old
+        → OnOk result (IsFormatted layout.now uuid.now (M.bytes media.old) (M.bytes media.new)) }
+    ensures any_moment { IsTold M.MediaState media.old → LeavesOnly M.MediaState media.old media.new
+        (IsStage layout.now uuid.now (M.bytes media.old)) }
+    ensures goes_on { GoesOn M.MediaState media.old media.new }
+    ensures cause { Fails M.MediaState media.old media.new (is_err result) }
+{
+    write_map(media, layout)?;
+    let log = fresh_log(layout);
+    media.write(layout.log_at, &log)?;
+    let info = info_block(layout, uuid);
+    media.write(layout.info_at, &info)?;
+    media.write(0, &info)
+}
+
 /// The arena in a media of `size` bytes: that of the info block at 0, where it is right, else that of the other one.
-pub fn find_arena<M: Media>(media: &mut M, size: u64) -> Result<Option<Layout>, rig_trait::Failed>
+fn find_arena<M: Media>(media: &mut M, size: u64) -> Result<Option<Layout>, rig_trait::Failed>
     requires size { IsTrue (is_size size) }
     requires told { IsTold M.MediaState media.old → length (M.bytes media.old) ≡ size }
     ensures arena { IsTold M.MediaState media.old → IfOk result (λ arena. arena ≡ arena_in (M.bytes media.old)) }
@@ -53,7 +105,7 @@ pub fn find_arena<M: Media>(media: &mut M, size: u64) -> Result<Option<Layout>, 
 }
 
 /// The layout that a media without an arena gets, with sectors of `sector` bytes, which are 512 or 4,096.
-pub fn vacant_layout<M: Media>(media: &mut M, sector: u32) -> Result<Layout, FormatFault>
+fn vacant_layout<M: Media>(media: &mut M, sector: u32) -> Result<Layout, FormatFault>
     requires { IsTrue (is_sector sector) }
     ensures vacant { IsTold M.MediaState media.old → OnOk result (arena_in (M.bytes media.old) ≡ None) }
     ensures exact { IsTold M.MediaState media.old

@@ -10,7 +10,7 @@ use Rattle.btt_arena.proofs.Frames.{goes_on}
 use Rattle.btt_arena.proofs.Moments.{and_a_call}
 use Rattle.btt_arena.proofs.Layouts.{Fits, fits_of}
 use Rattle.btt_arena.proofs.Parts.{left_only, more_zeros, still_only}
-use Rattle.btt_arena.proofs.format.write_map.Goals as goal
+use Rattle.btt_arena.proofs.formats.write_map.Goals as goal
 
 pub returns-in_err-write-clause-changes : goal.returns-in_err-write-clause-changes
 returns-in_err-write-clause-changes g c told =
