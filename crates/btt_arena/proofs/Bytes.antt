@@ -1,5 +1,5 @@
 -- Bytes with others over a range.
-use Rattle.std.proofs.Common.{◌≡◌, ℕ, ◌+◌, ◌≤◌, List, length, take, drop, sym, ap, ◌∙◌, arith}
+use Rattle.std.proofs.Common.{◌≡◌, ℕ, ◌+◌, ◌≤◌, List, length, drop, sym, ap, ◌∙◌, arith}
 use Rattle.std.proofs.lemmas.List.{length-take, length-drop}
 use Rattle.rig_trait.proofs.WrittenAreas.{patched_same}
 use Rattle.byte_ranges.specs.Ranges.{range, patched}

@@ -1,9 +1,8 @@
 -- What changes within a range alone.
-use Rattle.std.proofs.Common.{◌≡◌, ◌⊎◌, inl, inr, ⊎_elim, ℕ, ◌+◌, ◌≤◌, List, ◌++◌, length, take, drop, Option, Result, Ok, Err, refl, sym, ap, ◌∙◌, arith}
+use Rattle.std.proofs.Common.{◌≡◌, inl, inr, ⊎_elim, ℕ, ◌+◌, ◌≤◌, List, length, Result, Ok, ap, ◌∙◌, arith}
 use Rattle.byte_ranges.specs.Ranges.{range, patched}
-use Rattle.byte_ranges.proofs.Patched.{length-patched, range-patched_before, range-patched_after, range-patched_in}
+use Rattle.byte_ranges.proofs.Patched.{length-patched, range-patched_before, range-patched_after}
 use Rattle.rig_trait.specs.declared.rig.Failed.{Failed}
-use Rattle.std.proofs.lemmas.List.{drop-drop}
 use Rattle.btt_arena.specs.Formatting.{ChangesOnly}
 use Rattle.btt_arena.specs.Records.{CrashRecord, IsTorn, IsWhole, LeftByWrite, Writes}
 

@@ -1,5 +1,5 @@
 -- What calls of a media, one after the other, change and keep together.
-use Rattle.std.proofs.Common.{◌≡◌, ◌⊎◌, ℕ, ⊎_elim, ◌∙◌, arith}
+use Rattle.std.proofs.Common.{◌≡◌, ◌⊎◌, ⊎_elim, ◌∙◌, arith}
 use Rattle.btt_arena.specs.declared.state.MediaState.{Ghosts}
 use Rattle.btt_arena.specs.Frames.{GoesOn, LeavesOnly, Reads}
 use Rattle.btt_arena.specs.Records.{CrashRecord}

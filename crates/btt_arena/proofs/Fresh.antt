@@ -1,5 +1,5 @@
 -- An arena that was just made is sound, and each sector holds the bytes of its own block.
-use Rattle.std.proofs.Common.{◌≡◌, ℕ, zero, suc, ◌+◌, ◌-◌, ◌*◌, ◌%◌, ◌^◌, ◌<◌, ◌≤◌, Bool, true, false, List, ◌++◌, length, take, drop, Option, Some, refl, sym, ap, subst, ◌∙◌, ◌⊎◌, inl, inr, arith, eq-eqb, rules}
+use Rattle.std.proofs.Common.{◌≡◌, ℕ, zero, suc, ◌+◌, ◌-◌, ◌*◌, ◌^◌, ◌<◌, ◌≤◌, true, false, List, ◌++◌, length, take, drop, Option, Some, refl, sym, ap, subst, ◌∙◌, inl, inr, arith, eq-eqb}
 use Rattle.std.specs.Prelude.{replicate, nat_lt}
 use Rattle.std.specs.Option.{option_map_or}
 use Rattle.std.proofs.lemmas.Bool.{cases_lt}
@@ -12,8 +12,8 @@ use Rattle.byte_ranges.specs.Ranges.{range, number_at, patched}
 use Rattle.byte_ranges.proofs.Patched.{range-patched_before, range-patched_in}
 use Rattle.byte_ranges.proofs.Numbers.{number_at-take}
 use Rattle.btt_arena.specs.declared.layout.Layout.{Layout}
-use Rattle.btt_arena.specs.Arena.{AreEachOnce, HasNewer, IsSound, block_at, block_bytes, content, held_by, holds}
-use Rattle.btt_arena.specs.Formatting.{AreZero, HasFreshLog, HasFreshMap, IsFresh, fresh_lane}
+use Rattle.btt_arena.specs.Arena.{AreEachOnce, IsSound, block_at, held_by, holds}
+use Rattle.btt_arena.specs.Formatting.{HasFreshLog, HasFreshMap, IsFresh, fresh_lane}
 use Rattle.btt_arena.specs.Info.{arena_in}
 use Rattle.btt_arena.specs.Layout.{IsLayout}
 use Rattle.btt_arena.specs.Tables.{Half, Map, block_in, block_named, completed, completed_by, free_block, half_at, half_in, map_in, newer_half, newer_of, normal, with_half, with_lane}

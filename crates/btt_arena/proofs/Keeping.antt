@@ -1,12 +1,11 @@
 -- Time goes on over a write of a media in memory.
-use Rattle.std.proofs.Common.{◌≡◌, inl, inr, ℕ, ◌+◌, ◌*◌, ◌≤◌, Bool, true, false, List, length, Option, Some, None, Ok, Err, refl, sym, ap, ◌∙◌}
+use Rattle.std.proofs.Common.{◌≡◌, inl, inr, ℕ, ◌+◌, ◌*◌, ◌≤◌, Bool, true, false, List, length, Option, Some, None, Ok, Err, refl, sym, ◌∙◌}
 use Rattle.std.specs.Prelude.{is_some, IsTrue, if◌then◌else◌}
 use Rattle.rig_trait.specs.declared.rig.Failed.{Failed}
 use Rattle.rig_trait.proofs.WrittenAreas.{patched_same}
 use Rattle.byte_ranges.specs.Ranges.{range, patched}
 use Rattle.btt_arena.specs.Kept.{KeptWrite, Keeping, bytes_kept, has_space, with_write, write_over}
-use Rattle.btt_arena.specs.Records.{CrashRecord, LeftByWrite, Writes}
-use Rattle.btt_arena.specs.Undone.{whole}
+use Rattle.btt_arena.specs.Records.{LeftByWrite, Writes}
 use Rattle.btt_arena.proofs.Bytes.{length-range, patched_back}
 use Rattle.btt_arena.proofs.Undoing.{GoesOver, goes_over}
 use Rattle.btt_arena.proofs.Words.{all_old, all_new}

@@ -1,5 +1,5 @@
 -- One write more within a part of a media.
-use Rattle.std.proofs.Common.{◌≡◌, ℕ, ◌+◌, ◌-◌, ◌≤◌, List, ◌++◌, length, take, drop, Result, Ok, sym, ap, ◌∙◌, arith}
+use Rattle.std.proofs.Common.{◌≡◌, ℕ, ◌+◌, ◌-◌, ◌≤◌, List, ◌++◌, length, take, drop, Result, sym, ap, ◌∙◌, arith}
 use Rattle.std.proofs.Math.Seq.{take-add}
 use Rattle.std.proofs.lemmas.List.{drop-drop, length-replicate, replicate-append-replicate}
 use Rattle.std.specs.Prelude.{replicate}
@@ -8,7 +8,7 @@ use Rattle.byte_ranges.proofs.Patched.{range-patched_before, range-patched_in}
 use Rattle.rig_trait.specs.declared.rig.Failed.{Failed}
 use Rattle.btt_arena.specs.Formatting.{AreZero, ChangesOnly}
 use Rattle.btt_arena.specs.Records.{CrashRecord, LeftByWrite, Writes}
-use Rattle.btt_arena.proofs.Changes.{changes_on, left_changes, stands, wider, write_changes}
+use Rattle.btt_arena.proofs.Changes.{changes_on, left_changes, wider, write_changes}
 
 module _ {T : Type 0} {start old new : List ℕ} {at : ℕ} {put : List ℕ} {result : Result T Failed} (from n : ℕ)
     (changes : ChangesOnly from n start old) (writes : Writes old new at put result)

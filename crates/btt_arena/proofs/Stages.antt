@@ -1,14 +1,14 @@
 -- What a stop leaves of each write of a media that is formatted.
-use Rattle.std.proofs.Common.{◌≡◌, ◌⊎◌, inl, inr, ⊎_elim, ℕ, ◌+◌, ◌-◌, ◌*◌, ◌≤◌, ◌<◌, List, length, Option, Some, None, Result, Ok, Err, refl, sym, ap, subst, ◌∙◌, arith}
+use Rattle.std.proofs.Common.{◌≡◌, ◌⊎◌, inl, inr, ℕ, ◌+◌, ◌-◌, ◌*◌, ◌≤◌, ◌<◌, List, length, Option, Some, None, Result, Ok, Err, refl, sym, ap, subst, ◌∙◌, arith}
 use Rattle.std.specs.Prelude.{IsErr, OnErr}
 use Rattle.byte_ranges.specs.Ranges.{range, patched}
 use Rattle.byte_ranges.proofs.Patched.{range-patched_in}
 use Rattle.rig_trait.specs.declared.rig.Failed.{Failed}
 use Rattle.btt_arena.specs.declared.layout.Layout.{Layout}
-use Rattle.btt_arena.specs.Formatting.{ChangesOnly, IsFormatted, fresh_lane, HasFreshLog, HasFreshMap, HasInfo, IsFair, IsFairTorn, IsFresh, IsInOrder, IsNoneOrFresh, IsStage, writing_first, writing_lanes, writing_map, writing_second}
+use Rattle.btt_arena.specs.Formatting.{ChangesOnly, IsFormatted, fresh_lane, HasFreshLog, HasFreshMap, HasInfo, IsFair, IsFairTorn, IsStage, writing_first, writing_lanes, writing_map, writing_second}
 use Rattle.btt_arena.specs.Info.{arena_at, arena_in, first_of_two, info_text, told_layout}
-use Rattle.btt_arena.specs.Layout.{IsLayout, is_size, layout_of}
-use Rattle.btt_arena.specs.Records.{CrashRecord, IsTorn, IsWhole, LeftByWrite, TornWrite, Writes, torn_write}
+use Rattle.btt_arena.specs.Layout.{IsLayout, layout_of}
+use Rattle.btt_arena.specs.Records.{CrashRecord, LeftByWrite, Writes, torn_write}
 use Rattle.btt_arena.proofs.Changes.{changes_on, left_changes, patched_changes, wider}
 use Rattle.btt_arena.proofs.Fresh.{fresh_of, range-range}
 use Rattle.btt_arena.proofs.Infos.{length-info_text, told_text}

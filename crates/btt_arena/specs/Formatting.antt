@@ -7,7 +7,7 @@ use Rattle.btt_arena.specs.declared.layout.Layout.{Layout}
 use Rattle.btt_arena.specs.declared.formats.FormatFault.{FormatFault}
 use Rattle.btt_arena.specs.declared.formats.FormatFault.TheVariants as fault
 use Rattle.btt_arena.specs.Arena.{IsSound, block_bytes, content, holds}
-use Rattle.btt_arena.specs.Info.{arena_in, first_info, info_bytes, info_text, second_info, told_layout}
+use Rattle.btt_arena.specs.Info.{arena_in, info_bytes, info_text, told_layout}
 use Rattle.btt_arena.specs.Layout.{data_at, is_size, lane_count, layout_of}
 use Rattle.btt_arena.specs.Records.{CrashRecord, TornWrite}
 use Rattle.btt_arena.specs.Tables.{normal}

@@ -20,14 +20,14 @@
 --        112      8  InfoOff          where the second info block stands
 --        120         unused           not looked at; written as zero
 --      4,088      8  Checksum         of the 4,096 bytes, with this field as zero
-use Rattle.std.specs.Prelude.{◌≡◌, ℕ, ◌+◌, ◌&&◌, Bool, List, [], ◌∷◌, ◌++◌, length, drop, codes, replicate, nat_eq}
+use Rattle.std.specs.Prelude.{ℕ, ◌&&◌, Bool, List, [], ◌∷◌, ◌++◌, length, drop, codes, replicate, nat_eq}
 use Rattle.std.specs.Prelude.{Option, Some, None, if◌then◌else◌}
 use Rattle.std.specs.List.{starts_with}
 use Rattle.byteorder.specs.Endian.{little_bytes}
 use Rattle.byte_ranges.specs.Ranges.{range, with_fields}
 use Rattle.fletcher64.specs.Sums.{has_checksum, with_checksum}
 use Rattle.btt_arena.specs.declared.layout.Layout.{Layout}
-use Rattle.btt_arena.specs.Layout.{data_at, is_size, lane_count, layout_of}
+use Rattle.btt_arena.specs.Layout.{is_size, layout_of}
 
 abbrev pub info_bytes : ℕ
 info_bytes = 4096

@@ -27,7 +27,10 @@ mod tests {
         let bytes = vec![in rt.alloc(); 0; 16_777_216]?;
         let mut media = MemoryMedia::new(rt.alloc(), bytes);
         assert_eq!(rt; format(&mut media, 512, &[7; 16]), Ok(32_202));
-        assert_eq!(rt; format(&mut media, 512, &[7; 16]), Err(FormatFault::Already));
+        assert_eq!(rt;
+            format(&mut media, 512, &[7; 16]),
+            Err(FormatFault::Already)
+        );
         Ok(())
     }
 }

@@ -1,4 +1,4 @@
-use Rattle.std.proofs.Common.{◌≡◌, ℕ, ◌+◌, ◌-◌, ◌≤◌, List, length, Result, Ok, Err, sym, ap, ◌∙◌, arith}
+use Rattle.std.proofs.Common.{◌≡◌, ℕ, ◌+◌, ◌-◌, ◌≤◌, List, length, Result, Ok, Err, ◌∙◌, arith}
 use Rattle.std.specs.Prelude.{OnOk}
 use Rattle.byte_ranges.specs.Ranges.{patched}
 use Rattle.rig_trait.specs.declared.rig.Failed.{Failed}

@@ -1,4 +1,4 @@
-use Rattle.std.proofs.Common.{◌≡◌, ◌++◌, false, true, sym, ◌∙◌}
+use Rattle.std.proofs.Common.{◌++◌, false, true, sym, ◌∙◌}
 use Rattle.btt_arena.proofs.Words.{word_put}
 use Rattle.btt_arena.proofs.kept_writes.mix.Goals as goal
 use Rattle.btt_arena.proofs.kept_writes.mix.Goals.{then-is_new, else-is_new}

@@ -1,7 +1,6 @@
-use Rattle.std.proofs.Common.{◌≡◌, ◌+◌, ◌^◌, ◌<◌, arith, refl}
+use Rattle.std.proofs.Common.{◌+◌}
 use Rattle.btt_arena.specs.Tables.{normal}
 use Rattle.btt_arena.proofs.Fresh.{lane_put}
-use Rattle.btt_arena.proofs.Layouts.{Fits, fits_of}
 use Rattle.btt_arena.proofs.lanes.lane_text.Goals as goal
 
 pub returns : goal.returns

@@ -1,4 +1,4 @@
-use Rattle.std.proofs.Common.{◌≡◌, ℕ, ◌+◌, ◌*◌, ◌/◌, ◌%◌, ◌≤◌, List, Some, None, map, length, sym, ap, subst, ◌∙◌, arith}
+use Rattle.std.proofs.Common.{◌≡◌, ℕ, ◌+◌, ◌/◌, List, Some, None, map, length, sym, ap, subst, ◌∙◌, arith}
 use Rattle.byte_ranges.specs.Ranges.{range, patched}
 use Rattle.btt_arena.specs.Crashed.{mixed, stopped}
 use Rattle.btt_arena.specs.InKept.{write_at}

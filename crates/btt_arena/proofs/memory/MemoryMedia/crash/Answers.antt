@@ -1,9 +1,8 @@
-use Rattle.std.proofs.Common.{◌≡◌, true, List, ℕ, length, Option, Some, None, sym, refl, ap, subst, ◌∙◌}
+use Rattle.std.proofs.Common.{◌≡◌, true, List, ℕ, length, Option, Some, sym, refl, ap, subst, ◌∙◌}
 use Rattle.std.specs.Prelude.{IfSome, is_some}
-use Rattle.std.specs.Vec.{with_items}
 use Rattle.std.proofs.lemmas.List.{with_items_is}
 use Rattle.btt_arena.specs.Crashed.{first_stopped}
-use Rattle.btt_arena.specs.Kept.{Keeping, AllLieIn, kept_writes, kept_from}
+use Rattle.btt_arena.specs.Kept.{AllLieIn, kept_writes, kept_from}
 use Rattle.btt_arena.specs.Memory.{Memory}
 use Rattle.btt_arena.proofs.Stopping.{HasRecord, crash_recorded}
 use Rattle.btt_arena.proofs.memory.MemoryMedia.crash.Goals as goal

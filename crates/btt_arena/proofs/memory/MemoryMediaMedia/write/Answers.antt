@@ -1,14 +1,13 @@
-use Rattle.std.proofs.Common.{◌≡◌, ◌+◌, ◌*◌, ◌≤◌, ℕ, true, Option, List, length, Ok, Err, refl, sym, ap, subst, ◌∙◌, rules}
-use Rattle.std.specs.Prelude.{is_some, IsTrue}
+use Rattle.std.proofs.Common.{◌≡◌, ◌+◌, ◌*◌, ◌≤◌, ℕ, true, List, length, Ok, Err, refl, sym, ap, subst, ◌∙◌}
 use Rattle.std.specs.Vec.{with_items}
 use Rattle.std.proofs.lemmas.List.{with_items_is}
 use Rattle.byte_ranges.specs.Ranges.{patched}
 use Rattle.byte_ranges.proofs.Patched.{length-patched}
-use Rattle.btt_arena.specs.Kept.{AllLieIn, Keeping, LiesIn, has_space, kept_writes, with_write, write_over}
+use Rattle.btt_arena.specs.Kept.{AllLieIn, LiesIn, has_space, kept_writes, with_write, write_over}
 use Rattle.btt_arena.specs.Memory.{Memory}
 use Rattle.btt_arena.specs.Records.{CrashRecord, LeftByWrite}
 use Rattle.btt_arena.proofs.Bytes.{length-range}
-use Rattle.btt_arena.proofs.Keeping.{write_goes_over, failed_write_goes_over, still_keeps, writes_nothing, writes_all}
+use Rattle.btt_arena.proofs.Keeping.{write_goes_over, failed_write_goes_over, writes_nothing}
 use Rattle.btt_arena.proofs.Stopping.{AllLieIn-with_write}
 use Rattle.btt_arena.proofs.Undoing.{GoesOver}
 use Rattle.btt_arena.proofs.memory.MemoryMediaMedia.write.Goals as goal
