@@ -52,7 +52,8 @@ pub data IsInOrder (a : Layout) (uuid before bytes : List ℕ) : Type 0 where
       → range bytes data_at (a.map_at - data_at) ≡ range before data_at (a.map_at - data_at)
       → HasFreshMap a bytes → HasFreshLog a bytes → HasInfo a uuid a.info_at bytes → IsInOrder a uuid before bytes
 
--- The arena that format makes: its map and its lanes are fresh, and each sector holds the bytes that stood in its block.
+-- The arena that format makes: its map and its lanes are fresh, and each sector holds the bytes that stood in its
+-- block.
 pub record IsFresh (a : Layout) (before bytes : List ℕ) : Type 0 where
   pub map : HasFreshMap a bytes
   pub lanes : HasFreshLog a bytes

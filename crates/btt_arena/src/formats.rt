@@ -1,9 +1,7 @@
 //! How a media is formatted.
 
-ghost use Rattle.std.specs.Prelude.{◌≡◌, ◌⊎◌, ◌+◌, ◌-◌, ◌*◌, ◌<◌, ◌≤◌, ℕ, length, Err, None, Some, false, IsTrue, IsSome, IfErr, IfOk};
-ghost use Rattle.std.specs.Prelude.{IfSome, OnOk, replicate};
+ghost use Rattle.std.specs.Prelude.{◌≡◌, ◌-◌, length, Err, None, IsTrue, IsSome, IfErr, IfOk, IfSome, OnOk};
 ghost use Rattle.std.specs.Result.{is_err};
-ghost use Rattle.byte_ranges.specs.Ranges.{range};
 ghost use Rattle.btt_arena.specs.declared.formats.FormatFault.TheVariants.{Failed};
 ghost use Rattle.btt_arena.specs.Formatting.{ChangesOnly, Formats, HasFreshMap, IsFormatted, IsInOrder, IsNoneOrFresh};
 ghost use Rattle.btt_arena.specs.Formatting.{IsRefused, IsStage, is_format_failed};
@@ -35,8 +33,9 @@ impl From<rig_trait::Failed> for FormatFault {
     }
 }
 
-/// Makes an arena in a media that has none, with sectors of `sector` bytes, which are 512 or 4,096, and answers the number
-/// of its sectors. It writes the map, the lanes, the info block at `info_at` and that at 0, in this order; the data stay.
+/// Makes an arena in a media that has none, with sectors of `sector` bytes, which are 512 or 4,096, and answers the
+/// number of its sectors. It writes the map, the lanes, the info block at `info_at` and that at 0, in this order; the
+/// data stay.
 pub fn format<M: Media>(media: &mut M, sector: u32, uuid: &[u8; 16]) -> Result<u32, FormatFault>
     requires { IsTrue (is_sector sector) }
     ensures answer { IsTold M.MediaState media.old → Formats sector (M.bytes media.old) result }
@@ -135,7 +134,8 @@ fn write_map<M: Media>(media: &mut M, layout: &Layout) -> Result<(), rig_trait::
     requires told { IsTold M.MediaState media.old → length (M.bytes media.old) ≡ layout.now.size }
     ensures map { IsTold M.MediaState media.old → OnOk result (HasFreshMap layout.now (M.bytes media.new)) }
     ensures changes { IsTold M.MediaState media.old
-        → ChangesOnly layout.now.map_at (layout.now.log_at - layout.now.map_at) (M.bytes media.old) (M.bytes media.new) }
+        → ChangesOnly layout.now.map_at (layout.now.log_at - layout.now.map_at)
+        (M.bytes media.old) (M.bytes media.new) }
     ensures any_moment { IsTold M.MediaState media.old → LeavesOnly M.MediaState media.old media.new
         (λ c. ChangesOnly layout.now.map_at (layout.now.log_at - layout.now.map_at) (M.bytes media.old) c.bytes) }
     ensures goes_on { GoesOn M.MediaState media.old media.new }

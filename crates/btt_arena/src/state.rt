@@ -5,8 +5,8 @@ ghost use Rattle.btt_arena.specs.Records.{CrashRecord};
 
 /// What contracts see of a media: its bytes, what a stop leaves, and how often it failed.
 ///
-/// A media that tells its bytes says so by `tells`; what its calls promise of content holds there, and all else holds of
-/// every media. One that tells what a stop leaves says so by `tells_records`; one that doesn't has no records.
+/// A media that tells its bytes says so by `tells`; what its calls promise of content holds there, and all else holds
+/// of every media. One that tells what a stop leaves says so by `tells_records`; one that doesn't has no records.
 pub trait MediaState {
     /// Whether it tells its bytes.
     ghost tells: { Self → Bool };
