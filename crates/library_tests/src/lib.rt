@@ -3,9 +3,13 @@
 #![tactic(auto)]
 
 #[cfg(test)]
+mod areas;
+#[cfg(test)]
 mod extents;
 #[cfg(test)]
 mod lists;
+#[cfg(test)]
+mod nfits;
 #[cfg(test)]
 mod numbers;
 #[cfg(test)]

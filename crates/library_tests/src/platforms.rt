@@ -24,7 +24,7 @@ fn two_modules(rt: HostRuntime) -> Result<(), Fail> {
         location: 0,
     };
     let members = [member(0x1, 0, 1), member(0x101, 4096, 2)];
-    let platform = platform(rt.alloc(), 2)?;
+    let platform = platform(rt.alloc())?;
     assert_eq!(rt; platform.regions.len(), 1);
     let region = platform.region(1).ok_or("there is no region 1")?;
     assert_eq!(rt; (region.spa, region.length), (4 * GIB, 128 * GIB));

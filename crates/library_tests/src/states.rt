@@ -1,11 +1,11 @@
 //! What the state of all modules shows of regions and modules by their names.
 
+use crate::areas::initialised;
 use crate::two_modules::platform;
 use label_sets::{Sets, read_state};
 use rig_trait::MemoryRig;
 use std::alloc::Global;
 use std::test::Fail;
-use test_areas::{block, small_area};
 use view_types::AreaState;
 
 const MIB: u64 = 0x10_0000;
@@ -16,10 +16,9 @@ const PART: u64 = 0x10_0000_0000;
 /// The state of two modules with areas of two slots that were initialised, with room for a change.
 fn sets(alloc: Global) -> Result<Sets, Fail> {
     let mut rig = MemoryRig::new(alloc, 0)?;
-    let parts = [block(false, 3, 3), block(true, 2, 3), [0; 256], [0; 256]];
-    rig.add(0x1, small_area(alloc, &parts)?)?;
-    rig.add(0x101, small_area(alloc, &parts)?)?;
-    let platform = platform(alloc, 2)?;
+    rig.add(0x1, initialised(alloc)?)?;
+    rig.add(0x101, initialised(alloc)?)?;
+    let platform = platform(alloc)?;
     let mut sets = match read_state(alloc, &platform, &mut rig) {
         Ok(sets) => sets,
         Err(_) => return Err("no state".into()),

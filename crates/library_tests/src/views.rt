@@ -3,17 +3,15 @@
 ghost use Rattle.std.specs.Prelude.{IfOk};
 ghost use Rattle.sessions.specs.Sessions.{IsCurrent};
 
+use crate::areas::{blank, initialised};
 use crate::two_modules::platform;
 use cmd_words::Command;
 use rig_trait::{FileRig, MemoryRig, Rig, Shown};
 use sessions::{RunFault, Session};
 use std::alloc::{AllocError, Global};
 use std::test::Fail;
-use test_areas::{block, small_area};
 use uuid::Uuid;
 use view_types::{AreaState, Status, View};
-
-const ZEROS: [u8; 256] = [0; 256];
 
 const UUID: [u8; 16] = [0x0f; 16];
 
@@ -30,9 +28,8 @@ const CREATE: Command = Command::Create {
 /// A rig with two areas of two slots that were initialised.
 fn both(alloc: Global) -> Result<MemoryRig, AllocError> {
     let mut rig = MemoryRig::new(alloc, 0)?;
-    let parts = [block(false, 3, 3), block(true, 2, 3), ZEROS, ZEROS];
-    rig.add(0x1, small_area(alloc, &parts)?)?;
-    rig.add(0x101, small_area(alloc, &parts)?)?;
+    rig.add(0x1, initialised(alloc)?)?;
+    rig.add(0x101, initialised(alloc)?)?;
     Ok(rig)
 }
 
@@ -40,7 +37,7 @@ fn both(alloc: Global) -> Result<MemoryRig, AllocError> {
 fn start(alloc: Global, rig: &mut MemoryRig) -> Result<Session, Fail>
     ensures { IfOk result (IsCurrent ⟦<MemoryRig as Shown>⟧ rig.new) }
 {
-    let platform = platform(alloc, 2)?;
+    let platform = platform(alloc)?;
     match Session::start(alloc, platform, rig) {
         Ok(session) => Ok(session),
         Err(_) => Err(Fail::from("no session")),
@@ -71,7 +68,7 @@ fn shown(view: &View) -> Option<Shows> {
 fn unready(rt: HostRuntime) -> Result<(), Fail> {
     let alloc = rt.alloc();
     let mut rig = MemoryRig::new(alloc, 0)?;
-    rig.add(0x1, small_area(alloc, &[ZEROS; 4])?)?;
+    rig.add(0x1, blank(alloc)?)?;
     let view = start(alloc, &mut rig)?.view(alloc)?;
     let state = AreaState::Uninit;
     let status = Status::Area { dimm: 0x1, state };

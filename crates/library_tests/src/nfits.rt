@@ -2,19 +2,12 @@
 
 ghost use Rattle.std.specs.Prelude.{◌≤◌, length};
 
-use crate::fields::put;
+use crate::areas::put;
 use std::alloc::{AllocError, Global};
-
-/// The GUID of persistent memory, 66F0D379-B4F3-4074-AC43-0D3318B78CDB.
-pub const PERSISTENT_MEMORY: [u8; 16] = [
-    0x79, 0xd3, 0xf0, 0x66, 0xf3, 0xb4, 0x74, 0x40, 0xac, 0x43, 0x0d, 0x33, 0x18, 0xb7, 0x8c, 0xdb,
-];
-
-/// A GUID of no known kind of memory.
-pub const OTHER_GUID: [u8; 16] = [0x77; 16];
+use view_types::PERSISTENT_MEMORY;
 
 /// An address range of 128 GiB at 4 GiB.
-pub fn range(index: u16, type_guid: &[u8; 16]) -> [u8; 56] {
+fn range(index: u16, type_guid: &[u8; 16]) -> [u8; 56] {
     let mut bytes = [0; 56];
     bytes[2] = 56;
     put(&mut bytes, 4, &index.to_le_bytes());
@@ -26,7 +19,7 @@ pub fn range(index: u16, type_guid: &[u8; 16]) -> [u8; 56] {
 }
 
 /// A region of 64 GiB in range 1, in an interleave of two ways by interleave structure 1.
-pub fn mapping(handle: u32, control: u16, offset: u64) -> [u8; 48] {
+fn mapping(handle: u32, control: u16, offset: u64) -> [u8; 48] {
     let mut bytes = [0; 48];
     bytes[0] = 1;
     bytes[2] = 48;
@@ -41,7 +34,7 @@ pub fn mapping(handle: u32, control: u16, offset: u64) -> [u8; 48] {
 }
 
 /// Two lines of 4,096 bytes.
-pub fn interleave(index: u16, lines: [u32; 2]) -> [u8; 24] {
+fn interleave(index: u16, lines: [u32; 2]) -> [u8; 24] {
     let mut bytes = [0; 24];
     bytes[0] = 2;
     bytes[2] = 24;
@@ -54,7 +47,7 @@ pub fn interleave(index: u16, lines: [u32; 2]) -> [u8; 24] {
 }
 
 /// A control region of the vendor 0x1234.
-pub fn control(index: u16, serial: u32) -> [u8; 32] {
+fn control(index: u16, serial: u32) -> [u8; 32] {
     let mut bytes = [0; 32];
     bytes[0] = 4;
     bytes[2] = 32;
@@ -66,7 +59,7 @@ pub fn control(index: u16, serial: u32) -> [u8; 32] {
 
 /// Two modules of 64 GiB in one region of 128 GiB: an address range, two control regions, the interleave of every
 /// second line, and two mappings, in 240 bytes.
-pub fn two_modules(alloc: Global) -> Result<Vec<u8>, AllocError> {
+pub(crate) fn two_modules(alloc: Global) -> Result<Vec<u8>, AllocError> {
     let mut structures = Vec::new(alloc);
     structures.extend_from_slice(&range(1, &PERSISTENT_MEMORY))?;
     structures.extend_from_slice(&control(1, 1))?;
@@ -79,7 +72,7 @@ pub fn two_modules(alloc: Global) -> Result<Vec<u8>, AllocError> {
 
 /// The NFIT of some structures, with the right length and checksum. The texts of its header are spaces, and its
 /// numbers 0.
-pub fn nfit(alloc: Global, structures: &[u8]) -> Result<Vec<u8>, AllocError> {
+pub(crate) fn nfit(alloc: Global, structures: &[u8]) -> Result<Vec<u8>, AllocError> {
     let len = u32::try_from(structures.len()).unwrap_or(u32::MAX);
     let mut bytes = Vec::new(alloc);
     bytes.extend_from_slice(b"NFIT")?;
@@ -92,7 +85,7 @@ pub fn nfit(alloc: Global, structures: &[u8]) -> Result<Vec<u8>, AllocError> {
 }
 
 /// Puts the checksum byte with which all bytes of an NFIT sum to 0 modulo 256, where there is a place for it.
-pub fn put_sum(bytes: &mut [u8]) {
+fn put_sum(bytes: &mut [u8]) {
     if bytes.len() < 10 {
         return;
     }
