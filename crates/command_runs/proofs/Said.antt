@@ -174,34 +174,6 @@ module _ {R : Type 0} (m : Ghosts R) (session : StoredSession) (seed number : �
       let said : length c.said ≡ length (m.said mid) + length (take saying.count (reply_text reply)) = ap length saying.said_is ∙ length-append (m.said mid) (take saying.count (reply_text reply)) in
       omega (arith, whole, said, length-take saying.count (reply_text reply)))
 
-  -- a blank line or a comment
-  pub turns-blank : (new : R) → Answers m session seed number line old now new (Ok None) → Turns m session seed number line old now new (Ok false)
-  turns-blank new a = record {
-    turns_to = record {
-      reply = None;
-      turned = record {
-        does = a.does;
-        said_is = λ told. a.nothing.said ∙ sym (append-nil (m.said old));
-        current = a.current;
-        kept = λ none. read-only (a.reads_only refl);
-        no_more = λ current. reading (λ c. length (m.said old) < length c.said → c.areas ≡ m.areas new) (λ c same said lt. same ∙ sym (a.reads_only refl).areas) (a.reads_only refl);
-      };
-      refused_is = refl;
-      most = λ current. reading (λ c. length c.said ≤ length (m.said new)) (λ c same said. same-most (said ∙ sym a.nothing.said)) (a.reads_only refl);
-    };
-    any_moment = left-unsaid new a;
-    bytes = a.bytes;
-    bytes_left = a.bytes_left;
-    cause = record { areas = a.cause; says = a.nothing.say_faults };
-    among = tt;
-    reads = a.reads;
-    spends = a.spends;
-    platform = a.platform;
-    dimms = a.dimms;
-    sizes = a.sizes;
-    goes_on = a.nothing.goes_on;
-  }
-
   pub turns-said : (mid new : R) (reply : Reply) → Answers m session seed number line old now mid (Ok (Some reply)) → Tells m mid new (reply_text reply) false → (refused : Bool) → refused ≡ is_refusal reply
       → Turns m session seed number line old now new (Ok refused)
   turns-said mid new reply a tells refused refused_is = record {
