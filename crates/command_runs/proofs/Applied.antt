@@ -22,13 +22,13 @@ use Rattle.module_labels.specs.declared.kind.AreaKind.{AreaKind}
 use Rattle.module_labels.specs.declared.kind.AreaKind.TheVariants as kinds
 use Rattle.region_map.specs.declared.platform.Platform.{Platform}
 use Rattle.region_sets.specs.Modules.{dimm_of, size_in}
-use Rattle.sessions.specs.Commands.{Does, HasAreas, IsBeforeOrAfter, LeavesArea, SaysIfKnown, has_module, is_change, is_init, may_change, written_by}
-use Rattle.sessions.specs.Faults.{HasRunCause, IsRunAmong, IsRunAt, spent_after}
-use Rattle.sessions.specs.Found.{DoesAnyhow}
-use Rattle.sessions.proofs.Found.{does-anyhow}
-use Rattle.sessions.specs.Sessions.{IsCurrent, StoredSession, labels_of, slots_of, state_of}
-use Rattle.sessions.specs.declared.faults.RunFault.{RunFault}
-use Rattle.sessions.specs.declared.faults.RunFault.TheVariants as faults
+use Rattle.namespace_core.specs.Commands.{Does, HasAreas, IsBeforeOrAfter, LeavesArea, SaysIfKnown, has_module, is_change, is_init, may_change, written_by}
+use Rattle.namespace_core.specs.Faults.{HasRunCause, IsRunAmong, IsRunAt, spent_after}
+use Rattle.namespace_core.specs.Found.{DoesAnyhow}
+use Rattle.namespace_core.proofs.Found.{does-anyhow}
+use Rattle.namespace_core.specs.Sessions.{IsCurrent, StoredSession, labels_of, slots_of, state_of}
+use Rattle.namespace_core.specs.declared.faults.RunFault.{RunFault}
+use Rattle.namespace_core.specs.declared.faults.RunFault.TheVariants as faults
 use Rattle.table_steps.specs.Changes.{IsDoneBy}
 use Rattle.table_steps.specs.Initialise.{IsInitialised, already_ready, cannot_initialise}
 use Rattle.table_steps.specs.Refusals.{first_of, refused_if}

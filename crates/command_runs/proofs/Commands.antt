@@ -4,9 +4,9 @@ use Rattle.cmd_words.specs.declared.commands.Command.{Command}
 use Rattle.cmd_words.specs.declared.commands.Command.TheVariants.{InitLabels}
 use Rattle.region_map.specs.declared.platform.Platform.{Platform}
 use Rattle.report_json.specs.Texts.{is_one_line}
-use Rattle.sessions.specs.declared.faults.RunFault.{RunFault}
-use Rattle.sessions.specs.declared.faults.RunFault.TheVariants as faults
-use Rattle.sessions.specs.Commands.{SaysIfKnown, is_change, is_init, may_change, result_changes}
+use Rattle.namespace_core.specs.declared.faults.RunFault.{RunFault}
+use Rattle.namespace_core.specs.declared.faults.RunFault.TheVariants as faults
+use Rattle.namespace_core.specs.Commands.{SaysIfKnown, is_change, is_init, may_change, result_changes}
 use Rattle.view_types.specs.declared.reply.Reply.{Reply}
 use Rattle.view_types.specs.declared.reply.Reply.TheVariants as replies
 use Rattle.command_runs.specs.Areas.{initialised_by_command}

@@ -20,10 +20,10 @@ use Rattle.module_labels.specs.Labels.{Labels}
 use Rattle.namespace_staging.proofs.Flips.{sized-on}
 use Rattle.region_map.specs.declared.platform.Platform.{Platform}
 use Rattle.region_sets.specs.Modules.{dimm_of, size_in}
-use Rattle.sessions.specs.Commands.{Does, SaysIfKnown}
-use Rattle.sessions.specs.Found.{DoesAnyhow}
-use Rattle.sessions.specs.Sessions.{IsCurrent, StoredSession, slots_of, state_of}
-use Rattle.sessions.proofs.Telling.{no_call}
+use Rattle.namespace_core.specs.Commands.{Does, SaysIfKnown}
+use Rattle.namespace_core.specs.Found.{DoesAnyhow}
+use Rattle.namespace_core.specs.Sessions.{IsCurrent, StoredSession, slots_of, state_of}
+use Rattle.namespace_core.proofs.Telling.{no_call}
 use Rattle.view_types.specs.declared.reply.Reply.{Reply}
 use Rattle.view_types.specs.declared.word_fault.WordFault.{WordFault}
 use Rattle.command_runs.specs.declared.faults.LineFault.{LineFault}

@@ -23,9 +23,9 @@ use Rattle.label_area.proofs.Initialised.{vacant-initialised}
 use Rattle.module_labels.specs.declared.kind.AreaKind.TheVariants.{Ready, Uninit}
 use Rattle.module_labels.specs.Labels.{Module}
 use Rattle.region_map.specs.declared.platform.Platform.{Platform}
-use Rattle.sessions.specs.declared.faults.RunFault.TheVariants.{Area}
-use Rattle.sessions.specs.Commands.{is_init, written_by}
-use Rattle.sessions.proofs.Standing.{quiet-area}
+use Rattle.namespace_core.specs.declared.faults.RunFault.TheVariants.{Area}
+use Rattle.namespace_core.specs.Commands.{is_init, written_by}
+use Rattle.namespace_core.proofs.Standing.{quiet-area}
 use Rattle.view_types.specs.declared.word_fault.WordFault.{WordFault}
 use Rattle.command_runs.specs.Areas.{IsWritten, KeepsAreas, LeaveLabels, LeavesAreas, LeavesLabels, MayInitialise, OnlyTells, changed_by, changed_by_command, changed_by_line, initialised_by, initialised_by_line}
 

@@ -15,8 +15,8 @@ use Rattle.region_sets.specs.declared.modules.LoadedModule.{LoadedModule}
 use Rattle.region_sets.specs.Modules.{dimm_of, is_of, size_in}
 use Rattle.label_sets.specs.Init.{slots_at, slots_by_size}
 use Rattle.label_sets.specs.Sets.{StoredSets}
-use Rattle.sessions.specs.Sessions.{IsCurrent, StoredSession, state_of, stored_slots}
-use Rattle.sessions.proofs.Telling.{no_call}
+use Rattle.namespace_core.specs.Sessions.{IsCurrent, StoredSession, state_of, stored_slots}
+use Rattle.namespace_core.proofs.Telling.{no_call}
 use Rattle.command_runs.specs.Areas.{WritesNothing}
 use Rattle.command_runs.specs.Stops.{HasTable}
 

@@ -16,7 +16,7 @@ use Rattle.module_labels.specs.declared.kind.AreaKind.TheVariants.{Uninit}
 use Rattle.region_map.specs.declared.platform.Platform.{Platform}
 use Rattle.report_json.specs.Texts.{is_one_line, reply_text}
 use Rattle.report_json.proofs.Ends.{ended}
-use Rattle.sessions.specs.Sessions.{IsCurrent, StoredSession, state_of}
+use Rattle.namespace_core.specs.Sessions.{IsCurrent, StoredSession, state_of}
 use Rattle.view_types.specs.declared.reply.Reply.{Reply}
 use Rattle.view_types.specs.declared.word_fault.WordFault.{WordFault}
 use Rattle.command_runs.specs.declared.faults.LineFault.{LineFault}

@@ -17,8 +17,8 @@ use Rattle.cmd_words.specs.declared.commands.Command.{Command}
 use Rattle.cmd_words.specs.Lines.{command_in}
 use Rattle.view_types.specs.declared.word_fault.WordFault.{WordFault}
 use Rattle.view_types.specs.declared.reply.Reply.{Reply}
-use Rattle.sessions.specs.declared.faults.RunFault.{RunFault}
-use Rattle.sessions.specs.Commands.{has_module, is_init, may_change, written_by}
+use Rattle.namespace_core.specs.declared.faults.RunFault.{RunFault}
+use Rattle.namespace_core.specs.Commands.{has_module, is_init, may_change, written_by}
 
 -- the modules whose labels a command may change
 abbrev pub changed_by_command : Platform → Command → List ℕ

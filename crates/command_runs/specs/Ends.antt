@@ -2,7 +2,7 @@
 use Rattle.std.specs.Prelude.{◌≡◌, ℕ, ◌<◌, Bool, false, List, [], ◌++◌, length, take, Result, Ok, Err}
 use Rattle.rig_trait.specs.declared.shown.Shown.{Ghosts}
 use Rattle.rig_trait.specs.Records.{CrashRecord}
-use Rattle.sessions.specs.Sessions.{IsCurrent, StoredSession, slots_of, state_of}
+use Rattle.namespace_core.specs.Sessions.{IsCurrent, StoredSession, slots_of, state_of}
 use Rattle.command_runs.specs.declared.faults.LineFault.{LineFault}
 use Rattle.command_runs.specs.declared.faults.LineFault.TheVariants.{Area, Memory, Say}
 use Rattle.command_runs.specs.Areas.{WritesNothing}

@@ -11,8 +11,8 @@ use Rattle.label_table.specs.Tables.{State, state}
 use Rattle.cmd_words.specs.declared.commands.Command.{Command}
 use Rattle.cmd_words.specs.Lines.{command_in}
 use Rattle.report_json.specs.Texts.{reply_text}
-use Rattle.sessions.specs.Commands.{Does, SaysIfKnown, is_change}
-use Rattle.sessions.specs.Found.{DoesAnyhow}
+use Rattle.namespace_core.specs.Commands.{Does, SaysIfKnown, is_change}
+use Rattle.namespace_core.specs.Found.{DoesAnyhow}
 use Rattle.command_runs.specs.Uuids.{own_uuid}
 
 -- A run: its platform, how many slots the area of each module has room for, the seed of new uuids, the state that it

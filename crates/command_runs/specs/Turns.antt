@@ -9,10 +9,10 @@ use Rattle.cmd_words.specs.declared.commands.Command.{Command}
 use Rattle.label_area.specs.Fair.{IsFair}
 use Rattle.label_table.specs.Tables.{State}
 use Rattle.region_sets.specs.Modules.{dimm_of, size_in}
-use Rattle.sessions.specs.Commands.{has_module}
-use Rattle.sessions.specs.Sessions.{IsCurrent, StoredSession, state_of}
-use Rattle.sessions.specs.declared.faults.RunFault.{RunFault}
-use Rattle.sessions.specs.declared.faults.RunFault.TheVariants as faults
+use Rattle.namespace_core.specs.Commands.{has_module}
+use Rattle.namespace_core.specs.Sessions.{IsCurrent, StoredSession, state_of}
+use Rattle.namespace_core.specs.declared.faults.RunFault.{RunFault}
+use Rattle.namespace_core.specs.declared.faults.RunFault.TheVariants as faults
 use Rattle.view_types.specs.declared.reply.Reply.{Reply}
 use Rattle.view_types.specs.declared.word_fault.WordFault.{WordFault}
 use Rattle.command_runs.specs.declared.faults.LineFault.{LineFault}

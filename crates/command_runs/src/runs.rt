@@ -4,8 +4,8 @@ ghost use Rattle.std.specs.Prelude.{◌≡◌, [], false, map};
 ghost use Rattle.std.specs.List.{All};
 ghost use Rattle.rig_trait.specs.Frames.{GoesOn, IsTold, LeavesOnly};
 ghost use Rattle.module_flips.specs.Flips.{IsSizedIn};
-ghost use Rattle.sessions.specs.Commands.{has_module};
-ghost use Rattle.sessions.specs.Sessions.{IsCurrent};
+ghost use Rattle.namespace_core.specs.Commands.{has_module};
+ghost use Rattle.namespace_core.specs.Sessions.{IsCurrent};
 ghost use Rattle.command_runs.specs.Areas.{KeepsBytes, LeaveLabels, LeavesBytes, initialised_by};
 ghost use Rattle.command_runs.specs.Ends.{Ends, run_of};
 ghost use Rattle.command_runs.specs.Faults.{HasCause, IsAmong, fails_at, is_area};
@@ -13,8 +13,8 @@ ghost use Rattle.command_runs.specs.Stops.{IsLeft};
 
 use crate::faults::LineFault;
 use crate::turns::turn;
+use namespace_core::Session;
 use rig_trait::Rig;
-use sessions::Session;
 use std::alloc::Global;
 
 /// Does the command of each line, and says its reply before the next line is looked at. Lines are numbered from 1. A

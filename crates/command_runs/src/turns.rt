@@ -5,15 +5,15 @@ ghost use Rattle.std.specs.List.{All};
 ghost use Rattle.rig_trait.specs.Frames.{IsTold};
 ghost use Rattle.cmd_words.specs.Lines.{command_in};
 ghost use Rattle.module_flips.specs.Flips.{IsSizedIn};
-ghost use Rattle.sessions.specs.Faults.{IsSpent};
+ghost use Rattle.namespace_core.specs.Faults.{IsSpent};
 ghost use Rattle.command_runs.specs.Turns.{Answers, Turns, answer_by};
 
 use crate::faults::LineFault;
 use crate::replies::{is_refused, say_reply};
 use crate::uuids::own_uuid;
 use cmd_words::read_line;
+use namespace_core::{RunFault, Session};
 use rig_trait::Rig;
-use sessions::{RunFault, Session};
 use std::alloc::Global;
 use view_types::{Refusal, Reply};
 

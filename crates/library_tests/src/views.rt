@@ -1,13 +1,13 @@
 //! What a session shows of its platform, and that it asks nothing once an area failed.
 
 ghost use Rattle.std.specs.Prelude.{IfOk};
-ghost use Rattle.sessions.specs.Sessions.{IsCurrent};
+ghost use Rattle.namespace_core.specs.Sessions.{IsCurrent};
 
 use crate::areas::{blank, initialised};
 use crate::two_modules::platform;
 use cmd_words::Command;
+use namespace_core::{RunFault, Session};
 use rig_trait::{FileRig, MemoryRig, Rig, Shown};
-use sessions::{RunFault, Session};
 use std::alloc::{AllocError, Global};
 use std::test::Fail;
 use uuid::Uuid;

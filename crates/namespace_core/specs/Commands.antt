@@ -1,65 +1,142 @@
--- What a command promises that changes label storage areas, and what each pass of it does.
-use Rattle.std.specs.Prelude.{◌≡◌, ◌⊎◌, ℕ, false, IfErr, IfOk, List, OnOk, Result, map}
-use Rattle.std.specs.List.{All}
+-- What a command does to the state that labels stand for, what it writes, and what a stop leaves of it.
+use Rattle.std.specs.Prelude.{◌≡◌, ◌≢◌, ◌⊎◌, ℕ, ◌==◌, Bool, true, false, IfOk, List, [], ◌∷◌, Result, Ok, Err}
+use Rattle.std.specs.FinMap.{get}
+use Rattle.std.specs.List.{list_any}
 use Rattle.view_types.specs.declared.reply.Reply.{Reply}
-use Rattle.rig_trait.specs.declared.shown.Shown.{Ghosts}
-use Rattle.rig_trait.specs.Frames.{IsTold, LeavesOnly}
+use Rattle.view_types.specs.declared.reply.Reply.TheVariants as replies
+use Rattle.rig_trait.specs.Areas.{Areas}
+use Rattle.rig_trait.specs.Records.{CrashRecord}
+use Rattle.module_labels.specs.declared.kind.AreaKind.TheVariants.{Uninit}
 use Rattle.module_labels.specs.Labels.{Labels}
+use Rattle.label_area.specs.Inits.{LeftByInit, initialised}
+use Rattle.label_area.specs.Modules.{area_kind}
 use Rattle.region_map.specs.declared.platform.Platform.{Platform}
-use Rattle.region_map.specs.declared.platform.Region.{Region}
-use Rattle.label_table.specs.Tables.{State, changed_at, table, without_namespace}
-use Rattle.namespace_marking.specs.Renaming.{with_name}
-use Rattle.region_sets.specs.Modules.{dimm_of, size_in}
-use Rattle.module_flips.specs.declared.flips.AreaFailed.{AreaFailed}
-use Rattle.module_flips.specs.Stops.{HasAreaCause, LeftIn, WritesAmong}
-use Rattle.module_flips.specs.Stored.{StandsIn}
-use Rattle.label_sets.specs.Sets.{StoredSets, labels_in, platform_in, state_in}
-use Rattle.namespace_core.specs.declared.creation.ChangeFault.{ChangeFault}
-use Rattle.namespace_core.specs.Changes.{IsBeforeOrBehind}
-use Rattle.namespace_core.specs.Create.{HasChangeCause, IsStepOf, IsTableOf, WhereMemory, WhereRefused}
+use Rattle.label_table.specs.Tables.{State, state, table}
+use Rattle.table_steps.specs.declared.change.Change.TheVariants as changes
+use Rattle.table_steps.specs.Steps as steps
+use Rattle.cmd_words.specs.declared.commands.Command.{Command}
+use Rattle.cmd_words.specs.declared.commands.Command.TheVariants.{InitLabels, Create, Destroy, Rename, ReleaseHeld}
+use Rattle.cmd_words.specs.declared.commands.Command.TheVariants.{ListSpaces, ListRegions, ListFree, ListHeld, ToModule}
+use Rattle.cmd_words.specs.declared.commands.Command.TheVariants.{ToSpa, ToRuns}
+use Rattle.namespace_commands.specs.declared.lists.Query.TheVariants.{Spaces, Regions, Free, Held}
+use Rattle.namespace_commands.specs.Create.{modules_of}
+use Rattle.namespace_commands.specs.Lists.{IsShown}
+use Rattle.namespace_commands.specs.Translations.{AreToRuns, IsToModule, IsToSpa}
+use Rattle.namespace_core.specs.declared.faults.RunFault.{RunFault}
+use Rattle.namespace_core.specs.declared.faults.RunFault.TheVariants.{Area, Memory, Spent}
 
--- A command with a step: what it answers, and the state behind it. It writes the areas of these modules alone.
-pub record IsChange {R : Type 0} (modules : List ℕ) (platform : Platform) (does : Reply → State → Type 0) (m : Ghosts R)
-    (sets : StoredSets) (old : R) (now : StoredSets) (new : R) (result : Result Reply ChangeFault) : Type 0 where
-  -- the reply and the state are those of the step
-  pub step : IfOk result (λ reply. does reply (state_in now))
-  -- a refusal and want of memory change nothing, and write nothing
-  pub refused : IfOk result (WhereRefused (now ≡ sets))
-  pub unwritten : IfOk result (WhereRefused (new ≡ old))
-  pub memory : IfErr result (WhereMemory (now ≡ sets))
-  pub unwritten_memory : IfErr result (WhereMemory (new ≡ old))
-  pub regions : now.regions ≡ sets.regions
-  pub dimms : map dimm_of now.modules ≡ map dimm_of sets.modules
-  pub sizes : map size_in now.modules ≡ map size_in sets.modules
-  pub stands : IsTold m old → All (StandsIn (m.areas old)) sets.modules
-      → OnOk result (All (StandsIn (m.areas new)) now.modules)
-  -- a stop at any moment leaves the table before the command, or that behind it
-  pub any_moment : IsTold m old → All (StandsIn (m.areas old)) sets.modules
-      → LeavesOnly m old new (LeftIn (map dimm_of sets.modules) (m.said old)
-      (IsBeforeOrBehind platform (labels_in sets) does))
-  pub writes_among : WritesAmong modules m old new
-  pub cause : HasChangeCause modules m old new result
-  pub reads : m.reads new ≡ m.reads old
+-- The reply tells of the state, which stays.
+pub record Tells (platform : Platform) (labels : Labels) (IsReply : Reply → Type 0) (reply : Reply)
+    (after : State) : Type 0 where
+  pub told : IsReply reply
+  pub kept : after ≡ state platform labels
 
--- A pass over modules: what a stop at any moment leaves fits, and where no area fails the areas stand for what is kept.
-pub record IsPassOf {R T : Type 0} (handles : List ℕ) (m : Ghosts R) (fits : Labels → Type 0) (sets : StoredSets)
-    (old : R) (now : StoredSets) (new : R) (result : Result T AreaFailed) : Type 0 where
-  pub step : IsStepOf handles m fits sets old now new
-  pub stands : IsTold m old → All (StandsIn (m.areas old)) sets.modules
-      → OnOk result (All (StandsIn (m.areas new)) now.modules)
-  pub cause : HasAreaCause handles m old new result
+-- What the command does where the labels of the modules are these. `slots` is how many slots the area of each module
+-- has room for, by handle, and `own` the uuid of a new namespace for which the command gives none.
+abbrev pub Does : Platform → (ℕ → ℕ) → Labels → Command → List ℕ → Reply → State → Type 0
+Does platform slots labels (InitLabels dimm) own reply after =
+    steps.Does platform slots labels (changes.InitLabels dimm) own reply after
+Does platform slots labels (Create region size name abstraction sector uuid) own reply after =
+    steps.Does platform slots labels (changes.Create region size name abstraction sector uuid) own reply after
+Does platform slots labels (Destroy region key) own reply after =
+    steps.Does platform slots labels (changes.Destroy region key) own reply after
+Does platform slots labels (Rename region key name) own reply after =
+    steps.Does platform slots labels (changes.Rename region key name) own reply after
+Does platform slots labels (ReleaseHeld dimm uuid) own reply after =
+    steps.Does platform slots labels (changes.ReleaseHeld dimm uuid) own reply after
+Does platform slots labels (ListSpaces region) own reply after =
+    Tells platform labels (IsShown platform labels (Spaces region)) reply after
+Does platform slots labels ListRegions own reply after =
+    Tells platform labels (IsShown platform labels Regions) reply after
+Does platform slots labels (ListFree region) own reply after =
+    Tells platform labels (IsShown platform labels (Free region)) reply after
+Does platform slots labels (ListHeld dimm) own reply after =
+    Tells platform labels (IsShown platform labels (Held dimm)) reply after
+Does platform slots labels (ToModule region spa) own reply after =
+    Tells platform labels (IsToModule platform region spa) reply after
+Does platform slots labels (ToSpa region dimm dpa) own reply after =
+    Tells platform labels (IsToSpa platform region dimm dpa) reply after
+Does platform slots labels (ToRuns region spa len) own reply after =
+    Tells platform labels (AreToRuns platform region spa len) reply after
 
--- labels stand for the table of the state, or for that without a namespace
-abbrev pub IsTableOrWithout : StoredSets → Region → List ℕ → Labels → Type 0
-IsTableOrWithout sets region uuid labels = IsTableOf sets labels
-    ⊎ (table (platform_in sets) labels ≡ (without_namespace region uuid (state_in sets)).table)
+-- labels stand for the table behind a command
+pub record IsTableAfter (platform : Platform) (slots : ℕ → ℕ) (before : Labels) (command : Command) (own : List ℕ)
+    (labels : Labels) : Type 0 where
+  pub reply : Reply
+  pub after : State
+  pub does : Does platform slots before command own reply after
+  pub table_is : table platform labels ≡ after.table
 
--- labels stand for the table of the state, or for that in which a namespace has a name
-abbrev pub IsTableOrNamed : StoredSets → Region → List ℕ → List ℕ → Labels → Type 0
-IsTableOrNamed sets region uuid name labels = IsTableOf sets labels
-    ⊎ (table (platform_in sets) labels ≡ with_name region uuid name (state_in sets).table)
+-- labels stand for the table before a command, or for that behind it
+abbrev pub IsBeforeOrAfter : Platform → (ℕ → ℕ) → Labels → Command → List ℕ → Labels → Type 0
+IsBeforeOrAfter platform slots before command own labels = (table platform labels ≡ table platform before)
+    ⊎ IsTableAfter platform slots before command own labels
 
--- The namespace has the name, and is not pending. The marks of all others are as before.
-pub record IsNamedIn (before after : StoredSets) (region : Region) (uuid name : List ℕ) : Type 0 where
-  pub table_is : (state_in after).table ≡ with_name region uuid name (state_in before).table
-  pub marks : (state_in after).pending ≡ changed_at region uuid false (state_in before).pending
+abbrev pub is_init : Command → Bool
+is_init (InitLabels dimm) = true
+is_init _ = false
+
+-- the platform has a module with this handle
+abbrev pub has_module : Platform → ℕ → Bool
+has_module platform dimm = list_any (λ handle. handle == dimm) platform.modules
+
+-- `init-labels` reads the area again, so what it says is that of the step only where the areas are known to be those
+-- that are kept, or where the platform has no such module. The other commands look at no area.
+abbrev pub SaysIfKnown : Platform → Command → Type 0 → Type 0 → Type 0
+SaysIfKnown platform (InitLabels dimm) known fact = known ⊎ (has_module platform dimm ≡ false) → fact
+SaysIfKnown platform _ known fact = fact
+
+-- the modules whose areas a command may write
+abbrev pub written_by : Platform → Command → List ℕ
+written_by platform (InitLabels dimm) = dimm ∷ []
+written_by platform (Create region size name abstraction sector uuid) = modules_of platform region
+written_by platform (Destroy region key) = modules_of platform region
+written_by platform (Rename region key name) = modules_of platform region
+written_by platform (ReleaseHeld dimm uuid) = dimm ∷ []
+written_by platform _ = []
+
+-- the reply to a command that changed the state
+abbrev pub is_change : Reply → Bool
+is_change (replies.Initialised dimm slots) = true
+is_change (replies.Created uuid region offset len size spare) = true
+is_change (replies.Destroyed uuid) = true
+is_change (replies.Renamed uuid name) = true
+is_change (replies.Released count) = true
+is_change (replies.Namespaces spaces) = false
+is_change (replies.Regions regions) = false
+is_change (replies.Free extents most) = false
+is_change (replies.HeldList held spare) = false
+is_change (replies.Module dimm dpa) = false
+is_change (replies.Spa spa) = false
+is_change (replies.Runs runs) = false
+is_change (replies.Refused refusal) = false
+
+-- What `init-labels` makes of the bytes of areas: one that was Uninit has its two index blocks, and behind them its
+-- bytes. At any other nothing is written.
+pub record Initialises (dimm : ℕ) (areas now : Areas) (result : Result Reply RunFault) : Type 0 where
+  pub written : IfOk result (λ reply. is_change reply ≡ true → now ≡ initialised dimm areas)
+  pub kept : area_kind (get areas dimm) ≢ Uninit → now ≡ areas
+
+abbrev pub HasAreas : Command → Areas → Areas → Result Reply RunFault → Type 0
+HasAreas (InitLabels dimm) areas now result = Initialises dimm areas now result
+HasAreas _ areas now result = Unit {0}
+
+-- what a stop within `init-labels` leaves of the bytes of areas
+abbrev pub LeavesArea : Command → Areas → List ℕ → CrashRecord → Type 0
+LeavesArea (InitLabels dimm) areas said c = LeftByInit areas said dimm c
+LeavesArea _ areas said c = Unit {0}
+
+-- the state may have changed, or an area: by a command that changes areas, unless it is refused or wants memory
+abbrev pub result_changes : Result Reply RunFault → Bool
+result_changes (Ok reply) = is_change reply
+result_changes (Err (Area dimm)) = true
+result_changes (Err Memory) = false
+result_changes (Err Spent) = false
+
+abbrev pub may_change : Command → Result Reply RunFault → Bool
+may_change (InitLabels dimm) result = result_changes result
+may_change (Create region size name abstraction sector uuid) result = result_changes result
+may_change (Destroy region key) result = result_changes result
+may_change (Rename region key name) result = result_changes result
+may_change (ReleaseHeld dimm uuid) result = result_changes result
+may_change _ result = false

@@ -1,7 +1,9 @@
-pub mod Translations
-pub mod Lists
-pub mod Changes
-pub mod Create
-pub mod Keys
-pub mod Releases
 pub mod Commands
+pub mod Faults
+pub mod Found
+pub mod Done
+pub mod Sessions
+pub mod Codes
+pub mod Kept
+pub mod Success
+pub mod Views

@@ -1,23 +1,10 @@
-//! The commands on a platform: why each is refused, and its reply.
+//! A session: the state that the label storage areas of a platform's modules stand for, read once, and the commands on
+//! it (UEFI 2.7, section 13.19).
 #![tactic(auto)]
 
-mod create_refusals;
-mod creation;
-mod destruction;
-mod key_refusals;
-mod lists;
-mod recovering;
-mod refusals;
-mod release_refusals;
-mod releasing;
-mod renaming;
-mod translation_laws;
-mod translations;
+mod commands;
+mod faults;
+mod session;
 
-pub use creation::{ChangeFault, create};
-pub use destruction::destroy;
-pub use lists::{Query, show};
-pub use releasing::release_held;
-pub use renaming::rename;
-pub use translation_laws::one_translation;
-pub use translations::{to_module, to_runs, to_spa};
+pub use faults::{OpenFault, RunFault};
+pub use session::Session;

@@ -10,8 +10,8 @@ use Rattle.rig_trait.proofs.Frames.{reading}
 use Rattle.rig_trait.proofs.Moments.{and_a_call, joined, weakened}
 use Rattle.label_area.proofs.FairRecords.{IsFair-same}
 use Rattle.region_map.specs.declared.platform.Platform.{Platform}
-use Rattle.sessions.specs.Commands.{has_module}
-use Rattle.sessions.specs.Sessions.{IsCurrent, StoredSession, slots_of, state_of, stored_slots}
+use Rattle.namespace_core.specs.Commands.{has_module}
+use Rattle.namespace_core.specs.Sessions.{IsCurrent, StoredSession, slots_of, state_of, stored_slots}
 use Rattle.command_runs.proofs.Records.{says-nothing-written}
 use Rattle.command_runs.proofs.Said.{LeavesAreas-same}
 use Rattle.command_runs.specs.declared.faults.LineFault.{LineFault}

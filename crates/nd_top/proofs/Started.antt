@@ -13,7 +13,7 @@ use Rattle.label_area.specs.Fair.{IsFair}
 use Rattle.label_table.specs.Tables.{State, state, table}
 use Rattle.module_flips.specs.Stored.{stored_labels}
 use Rattle.region_map.specs.declared.platform.Platform.{Platform}
-use Rattle.sessions.specs.Sessions.{IsCurrent, StoredSession, labels_of, slots_of, state_of, stored_slots}
+use Rattle.namespace_core.specs.Sessions.{IsCurrent, StoredSession, labels_of, slots_of, state_of, stored_slots}
 use Rattle.command_runs.proofs.Records.{read-only, writes-nothing}
 use Rattle.command_runs.specs.declared.faults.LineFault.{LineFault}
 use Rattle.command_runs.specs.declared.faults.LineFault.TheVariants.{Area, Memory, Say}

@@ -5,8 +5,8 @@ use Rattle.nd_top.specs.declared.faults.Fault.TheVariants.{Words, Nfit, Area, So
 use Rattle.nd_top.specs.declared.faults.ReadFault.{ReadFault}
 use Rattle.nd_top.specs.declared.faults.ReadFault.TheVariants as reads
 use Rattle.nd_top.specs.declared.faults.SourceName.{SourceName}
-use Rattle.sessions.specs.declared.faults.OpenFault.{OpenFault}
-use Rattle.sessions.specs.declared.faults.OpenFault.TheVariants as opens
+use Rattle.namespace_core.specs.declared.faults.OpenFault.{OpenFault}
+use Rattle.namespace_core.specs.declared.faults.OpenFault.TheVariants as opens
 
 -- why a source is not read
 abbrev pub fault_of : SourceName → ReadFault → Fault

@@ -8,10 +8,10 @@ use Rattle.rig_trait.specs.Frames.{IsTold, LeavesOnly, Reads}
 use Rattle.label_table.specs.Tables.{State, state}
 use Rattle.module_flips.specs.Stored.{stored_labels}
 use Rattle.region_map.specs.declared.platform.Platform.{Platform}
-use Rattle.sessions.specs.declared.faults.OpenFault.{OpenFault}
-use Rattle.sessions.specs.Commands.{has_module}
-use Rattle.sessions.specs.Faults.{HasOpenCause, IsOpenAmong}
-use Rattle.sessions.specs.Sessions.{StoredSession, stored_slots}
+use Rattle.namespace_core.specs.declared.faults.OpenFault.{OpenFault}
+use Rattle.namespace_core.specs.Commands.{has_module}
+use Rattle.namespace_core.specs.Faults.{HasOpenCause, IsOpenAmong}
+use Rattle.namespace_core.specs.Sessions.{StoredSession, stored_slots}
 use Rattle.command_runs.specs.declared.faults.LineFault.{LineFault}
 use Rattle.command_runs.specs.declared.faults.LineFault.TheVariants.{Area, Memory, Say}
 use Rattle.command_runs.specs.Areas.{KeepsBytes, LeaveLabels, LeavesBytes, WritesNothing}

@@ -6,8 +6,8 @@ ghost use Rattle.nd_top.specs.Faults.{fault_by, fault_of};
 ghost use Rattle.nd_top.specs.Statuses.{code_of, fault_status};
 
 use crate::statuses::Status;
+use namespace_core::OpenFault;
 use nfit_tables::NfitFault;
-use sessions::OpenFault;
 use std::alloc::AllocError;
 
 /// What bytes are read from.

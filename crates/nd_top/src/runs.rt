@@ -9,9 +9,9 @@ use crate::faults::{Fault, start_fault};
 use crate::saying::say_fault;
 use crate::statuses::Status;
 use command_runs::{LineFault, run_lines};
+use namespace_core::Session;
 use region_map::Platform;
 use rig_trait::Rig;
-use sessions::Session;
 use std::alloc::Global;
 
 /// Reads the areas of a platform, and does the lines one after the other. The first fault ends the run, and its line is

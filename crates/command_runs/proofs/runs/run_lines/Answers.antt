@@ -3,7 +3,7 @@ use Rattle.std.specs.Prelude.{slice_get}
 use Rattle.std.proofs.lemmas.Option.{slice_get-get_or, slice_get-map}
 use Rattle.std.proofs.lemmas.List.{length-map}
 use Rattle.rig_trait.specs.declared.shown.Shown.{Ghosts}
-use Rattle.sessions.specs.Sessions.{IsCurrent, StoredSession}
+use Rattle.namespace_core.specs.Sessions.{IsCurrent, StoredSession}
 use Rattle.command_runs.specs.Ends.{IsFinished, run_of}
 use Rattle.command_runs.proofs.Ended.{cut-short}
 use Rattle.command_runs.proofs.Going.{IsGoing, any-moment-on, bytes-left-on, bytes-on, going-first, going-on, reads-on, still-sized}

@@ -2,7 +2,7 @@ use Rattle.std.proofs.Common.{◌≡◌, List, ℕ, map, subst, sym, ap, ◌∙�
 use Rattle.region_map.specs.declared.platform.Platform.{Platform}
 use Rattle.module_flips.proofs.Stored.{stands-sized}
 use Rattle.rig_trait.proofs.Frames.{goes_on}
-use Rattle.sessions.specs.Sessions.{slots_of, state_of}
+use Rattle.namespace_core.specs.Sessions.{slots_of, state_of}
 use Rattle.nd_top.specs.declared.faults.Fault.{Fault}
 use Rattle.nd_top.specs.Runs.{EndsOn, not_started, ran}
 use Rattle.nd_top.specs.Saying.{Says}

@@ -1,0 +1,273 @@
+//! The command that makes a namespace.
+
+ghost use Rattle.std.specs.Prelude.{◌≡◌, IfErr, IfOk, None, OnErr, OnOk, Some, map, true};
+ghost use Rattle.std.specs.List.{All};
+ghost use Rattle.rig_trait.specs.Frames.{IsTold, LeavesOnly};
+ghost use Rattle.region_map.specs.Platforms.{IsSound, region_at};
+ghost use Rattle.region_sets.specs.Modules.{dimm_of, size_in};
+ghost use Rattle.region_sets.specs.Regions.{handles};
+ghost use Rattle.module_flips.specs.Flips.{IsSizedIn};
+ghost use Rattle.module_flips.specs.Stops.{HasAreaCause, LeftIn, WritesAmong};
+ghost use Rattle.module_flips.specs.Stored.{StandsIn};
+ghost use Rattle.namespace_staging.specs.Staged.{new_space};
+ghost use Rattle.label_sets.specs.Sets.{labels_in, platform_in, state_in};
+ghost use Rattle.recovery.specs.Recovery.{IsRecovered};
+ghost use Rattle.table_steps.specs.Changes.{least_spare};
+ghost use Rattle.table_steps.specs.Create.{Creates, IsCreated};
+ghost use Rattle.namespace_commands.specs.Create.{CanPutIn, HasChangeCause, IsBeforeOrAfter, IsCreateRefusal, IsNewSpace};
+ghost use Rattle.namespace_commands.specs.Create.{IsPutIn, IsStepOf, IsTableOf, IsTableOrWith, WhereMemory, WhereRefused};
+ghost use Rattle.namespace_commands.specs.Create.{modules_of};
+ghost use Rattle.namespace_commands.specs.Lists.{IsStateOf};
+
+use crate::create_refusals::create_refusal;
+use label_sets::{AreaFailed, Sets};
+use recovery::{RecoverFault, recover};
+use region_map::{Member, Platform, Region};
+use rig_trait::Rig;
+use std::alloc::{AllocError, Global};
+use table_steps::NewNamespace;
+use view_types::{Namespace, Reply};
+
+/// Why a command that changes areas has no answer.
+#[derive(Clone, Copy, Debug, PartialEq, Eq)]
+pub enum ChangeFault {
+    /// The rig failed, at the area of the module with this device handle. The table is that before the command, or
+    /// that behind it.
+    Area { dimm: u32 },
+    /// No memory was given. Nothing was written.
+    Memory,
+}
+
+/// Makes a namespace in a region, on the first range that fits it: its labels go into all modules of the region, after
+/// the region is recovered. The reply tells where it stands, or why nothing was done: nothing was written then. A stop
+/// at any moment leaves areas that stand for the table before the command, or for that behind it.
+pub fn create<R: Rig>(
+    alloc: Global,
+    rig: &mut R,
+    platform: &Platform,
+    sets: &mut Sets,
+    asked: &NewNamespace,
+) -> Result<Reply, ChangeFault>
+    requires sound { IsSound platform.now }
+    requires state { IsStateOf platform.now sets.old }
+    requires sized { IsTold R.Shown rig.old → All (IsSizedIn (R.areas rig.old)) sets.old.modules }
+    ensures step { IfOk result (λ reply.
+        Creates platform.now (labels_in sets.old) asked.now reply (state_in sets.new)) }
+    ensures refused { IfOk result (WhereRefused (sets.new ≡ sets.old)) }
+    ensures unwritten { IfOk result (WhereRefused (rig.new ≡ rig.old)) }
+    ensures memory { IfErr result (WhereMemory (sets.new ≡ sets.old)) }
+    ensures unwritten_memory { IfErr result (WhereMemory (rig.new ≡ rig.old)) }
+    ensures regions { sets.new.regions ≡ sets.old.regions }
+    ensures dimms { map dimm_of sets.new.modules ≡ map dimm_of sets.old.modules }
+    ensures sizes { map size_in sets.new.modules ≡ map size_in sets.old.modules }
+    ensures stands { IsTold R.Shown rig.old → All (StandsIn (R.areas rig.old)) sets.old.modules
+        → OnOk result (All (StandsIn (R.areas rig.new)) sets.new.modules) }
+    ensures any_moment { IsTold R.Shown rig.old → All (StandsIn (R.areas rig.old)) sets.old.modules
+        → LeavesOnly R.Shown rig.old rig.new (LeftIn (map dimm_of sets.old.modules) (R.said rig.old)
+        (IsBeforeOrAfter platform.now (labels_in sets.old) asked.now)) }
+    ensures writes_among { WritesAmong (modules_of platform.now asked.now.region) R.Shown rig.old rig.new }
+    ensures cause { HasChangeCause (modules_of platform.now asked.now.region) R.Shown rig.old rig.new result }
+    ensures reads { R.reads rig.new ≡ R.reads rig.old }
+{
+    match create_refusal(alloc, platform, sets, asked) {
+        Ok(None) => (),
+        Ok(Some(refusal)) => return Ok(Reply::Refused(refusal)),
+        Err(_) => return Err(ChangeFault::Memory),
+    }
+    let Some(region) = platform.region(asked.region) else {
+        // Else it is refused.
+        unreachable!()
+    };
+    match prepare(alloc, platform, sets, region, asked) {
+        Ok(space) => make(rig, platform, sets, region, asked, &space),
+        Err(_) => Err(ChangeFault::Memory),
+    }
+}
+
+/// Finds the place of a namespace that nothing refuses, and takes all the memory that its create needs.
+fn prepare(
+    alloc: Global,
+    platform: &Platform,
+    sets: &mut Sets,
+    region: &Region,
+    asked: &NewNamespace,
+) -> Result<Namespace, AllocError>
+    requires state { IsStateOf platform.now sets.old }
+    requires known { region_at platform.now asked.now.region ≡ Some region.now }
+    requires unrefused { IsCreateRefusal platform.now (labels_in sets.old) asked.now None }
+    ensures room { OnOk result (sets.new ≡ record sets.old { room = true }) }
+    ensures space { IfOk result (IsNewSpace platform.now (labels_in sets.old) asked.now region.now) }
+    ensures kept { OnErr result (sets.new ≡ sets.old) }
+{
+    let space = match new_namespace(alloc, platform, sets, region, asked) {
+        Ok(space) => space,
+        Err(fault) => return Err(fault),
+    };
+    match sets.reserve() {
+        Ok(()) => Ok(space),
+        Err(fault) => Err(fault),
+    }
+}
+
+/// Makes a namespace that nothing refuses.
+fn make<R: Rig>(
+    rig: &mut R,
+    platform: &Platform,
+    sets: &mut Sets,
+    region: &Region,
+    asked: &NewNamespace,
+    space: &Namespace,
+) -> Result<Reply, ChangeFault>
+    requires sound { IsSound platform.now }
+    requires state { IsStateOf platform.now sets.old }
+    requires known { region_at platform.now asked.now.region ≡ Some region.now }
+    requires unrefused { IsCreateRefusal platform.now (labels_in sets.old) asked.now None }
+    requires space { IsNewSpace platform.now (labels_in sets.old) asked.now region.now space.now }
+    requires room { sets.old.room ≡ true }
+    requires sized { IsTold R.Shown rig.old → All (IsSizedIn (R.areas rig.old)) sets.old.modules }
+    ensures made { IfOk result (λ reply.
+        IsCreated platform.now (labels_in sets.old) asked.now reply (state_in sets.new)) }
+    ensures not_memory { IfErr result (WhereMemory ⊥) }
+    ensures step { IsStepOf (handles region.now) R.Shown
+        (IsBeforeOrAfter platform.now (labels_in sets.old) asked.now) sets.old rig.old sets.new rig.new }
+    ensures stands { IsTold R.Shown rig.old → All (StandsIn (R.areas rig.old)) sets.old.modules
+        → OnOk result (All (StandsIn (R.areas rig.new)) sets.new.modules) }
+    ensures cause { HasChangeCause (handles region.now) R.Shown rig.old rig.new result }
+{
+    match recover_region(rig, platform, sets, region, asked) {
+        Ok(()) => (),
+        Err(failed) => return Err(ChangeFault::Area { dimm: failed.dimm }),
+    }
+    // As free as they are spare, the modules have no dead label with the uuid.
+    sets.sweep_law();
+    match put_namespace(rig, platform, sets, region, space) {
+        Ok(()) => Ok(created(sets, region, asked, space)),
+        Err(failed) => Err(ChangeFault::Area { dimm: failed.dimm }),
+    }
+}
+
+/// The namespace that a create makes where nothing refuses it.
+fn new_namespace(
+    alloc: Global,
+    platform: &Platform,
+    sets: &mut Sets,
+    region: &Region,
+    asked: &NewNamespace,
+) -> Result<Namespace, AllocError>
+    requires state { IsStateOf platform.now sets.old }
+    requires known { region_at platform.now asked.now.region ≡ Some region.now }
+    requires unrefused { IsCreateRefusal platform.now (labels_in sets.old) asked.now None }
+    ensures same { sets.new ≡ sets.old }
+    ensures space { IfOk result (IsNewSpace platform.now (labels_in sets.old) asked.now region.now) }
+{
+    let uuid = asked.uuid;
+    let name = asked.name;
+    let abstraction = asked.abstraction;
+    let length = asked.size / region.members.len() as u64;
+    let Some(offset) = sets.first_fit(alloc, asked.region, length)? else {
+        // The free extents have room for the size.
+        unreachable!()
+    };
+    Ok(Namespace {
+        uuid,
+        name,
+        abstraction,
+        sector: asked.sector,
+        offset,
+        length,
+        pending: true,
+        read_only: false,
+    })
+}
+
+/// Recovers the region of a create that nothing refuses. The table stays.
+fn recover_region<R: Rig>(
+    rig: &mut R,
+    platform: &Platform,
+    sets: &mut Sets,
+    region: &Region,
+    asked: &NewNamespace,
+) -> Result<(), AreaFailed>
+    requires sound { IsSound platform.now }
+    requires state { IsStateOf platform.now sets.old }
+    requires known { region_at platform.now asked.now.region ≡ Some region.now }
+    requires unrefused { IsCreateRefusal platform.now (labels_in sets.old) asked.now None }
+    requires sized { IsTold R.Shown rig.old → All (IsSizedIn (R.areas rig.old)) sets.old.modules }
+    ensures recovered { OnOk result (IsRecovered sets.old sets.new region.now) }
+    ensures room { sets.new.room ≡ sets.old.room }
+    ensures step { IsStepOf (handles region.now) R.Shown (IsTableOf sets.old) sets.old rig.old sets.new rig.new }
+    ensures stands { IsTold R.Shown rig.old → All (StandsIn (R.areas rig.old)) sets.old.modules
+        → OnOk result (All (StandsIn (R.areas rig.new)) sets.new.modules) }
+    ensures cause { HasAreaCause (handles region.now) R.Shown rig.old rig.new result }
+{
+    match recover(rig, platform, sets, asked.region) {
+        Ok(()) => Ok(()),
+        Err(RecoverFault::Failed { dimm }) => Err(AreaFailed { dimm }),
+        // Else the create is refused.
+        Err(RecoverFault::Unhealed { .. }) => unreachable!(),
+    }
+}
+
+/// Puts the labels of a new namespace into the modules of its region, and heals it.
+fn put_namespace<R: Rig>(
+    rig: &mut R,
+    platform: &Platform,
+    sets: &mut Sets,
+    region: &Region,
+    space: &Namespace,
+) -> Result<(), AreaFailed>
+    requires sound { IsSound platform.now }
+    requires platform { platform.now.regions ≡ sets.old.regions }
+    requires known { region_at platform.now region.now.index ≡ Some region.now }
+    requires put { CanPutIn sets.old space.now region.now }
+    requires room { sets.old.room ≡ true }
+    requires sized { IsTold R.Shown rig.old → All (IsSizedIn (R.areas rig.old)) sets.old.modules }
+    ensures put { OnOk result (IsPutIn sets.old sets.new (new_space space.now) region.now) }
+    ensures step { IsStepOf (handles region.now) R.Shown (IsTableOrWith sets.old region.now (new_space space.now))
+        sets.old rig.old sets.new rig.new }
+    ensures stands { IsTold R.Shown rig.old → All (StandsIn (R.areas rig.old)) sets.old.modules
+        → OnOk result (All (StandsIn (R.areas rig.new)) sets.new.modules) }
+    ensures cause { HasAreaCause (handles region.now) R.Shown rig.old rig.new result }
+{
+    match sets.stage_all(rig, platform, region.index, space) {
+        Ok(()) => sets.clear_all(rig, platform, region.index, &space.uuid),
+        Err(failed) => Err(failed),
+    }
+}
+
+/// The reply to a create: `sets` has the namespace.
+fn created(sets: &Sets, region: &Region, asked: &NewNamespace, space: &Namespace) -> Reply
+    ensures { result ≡ Reply.Created asked.now.uuid asked.now.region space.now.offset space.now.length asked.now.size
+        (least_spare (state_in sets.now) region.now) }
+{
+    let uuid = asked.uuid;
+    Reply::Created {
+        uuid,
+        region: asked.region,
+        offset: space.offset,
+        length: space.length,
+        size: asked.size,
+        spare: least_spare(sets, region),
+    }
+}
+
+/// The least number of spare slots that a module of the region has.
+fn least_spare(sets: &Sets, region: &Region) -> u32
+    ensures { result ≡ least_spare (state_in sets.now) region.now }
+{
+    let Some((first, others)) = region.members.as_slice().split_first() else {
+        return 0;
+    };
+    let mut least = spare_of(sets, first);
+    for other in others {
+        least = least.min(spare_of(sets, other));
+    }
+    least
+}
+
+/// The spare slots of a member's module: 0 where its area is not Ready.
+fn spare_of(sets: &Sets, member: &Member) -> u32
+    ensures { result ≡ (state_in sets.now).table.spare member.now.handle }
+{
+    sets.spare(member.handle).unwrap_or(0)
+}

@@ -1,0 +1,44 @@
+//! The recovery of a region before a command changes a namespace of it.
+
+ghost use Rattle.std.specs.Prelude.{◌≡◌, None, OnOk, Some};
+ghost use Rattle.std.specs.List.{All};
+ghost use Rattle.rig_trait.specs.Frames.{IsTold};
+ghost use Rattle.region_map.specs.Platforms.{IsSound, region_at};
+ghost use Rattle.label_table.specs.Statuses.{RegionReady, status};
+ghost use Rattle.region_sets.specs.Regions.{handles};
+ghost use Rattle.module_flips.specs.Flips.{IsSizedIn};
+ghost use Rattle.label_sets.specs.Sets.{labels_in};
+ghost use Rattle.recovery.specs.Recovery.{IsRecovered};
+ghost use Rattle.table_steps.specs.Refusals.{unhealed_in};
+ghost use Rattle.namespace_commands.specs.Commands.{IsPassOf};
+ghost use Rattle.namespace_commands.specs.Create.{IsTableOf};
+
+use label_sets::{AreaFailed, Sets};
+use recovery::{RecoverFault, recover};
+use region_map::{Platform, Region};
+use rig_trait::Rig;
+
+/// Recovers a Ready region that can be recovered. The table stays.
+pub(crate) fn recover_ready<R: Rig>(
+    rig: &mut R,
+    platform: &Platform,
+    sets: &mut Sets,
+    region: &Region,
+) -> Result<(), AreaFailed>
+    requires sound { IsSound platform.now }
+    requires platform { platform.now.regions ≡ sets.old.regions }
+    requires known { region_at platform.now region.now.index ≡ Some region.now }
+    requires ready { status (labels_in sets.old) region.now ≡ RegionReady }
+    requires healable { unhealed_in platform.now (labels_in sets.old) region.now ≡ None }
+    requires sized { IsTold R.Shown rig.old → All (IsSizedIn (R.areas rig.old)) sets.old.modules }
+    ensures recovered { OnOk result (IsRecovered sets.old sets.new region.now) }
+    ensures room { sets.new.room ≡ sets.old.room }
+    ensures pass { IsPassOf (handles region.now) R.Shown (IsTableOf sets.old) sets.old rig.old sets.new rig.new result }
+{
+    match recover(rig, platform, sets, region.index) {
+        Ok(()) => Ok(()),
+        Err(RecoverFault::Failed { dimm }) => Err(AreaFailed { dimm }),
+        // The region can be recovered.
+        Err(RecoverFault::Unhealed { .. }) => unreachable!(),
+    }
+}

@@ -1,7 +1,0 @@
-use Rattle.std.proofs.Common.{◌∙◌}
-use Rattle.namespace_core.proofs.Unread.{told-unread}
-use Rattle.namespace_core.proofs.lists.region_refusal.Goals as goal
-
-pub returns : goal.returns
-returns c =
-    c.refusal_of.ensures ∙ told-unread c.args.platform.now c.args.sets.now c.args.index c.requires.state c.in_ok-status.status c.in_ok-status.ensures

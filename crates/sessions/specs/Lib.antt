@@ -1,9 +1,0 @@
-pub mod Commands
-pub mod Faults
-pub mod Found
-pub mod Done
-pub mod Sessions
-pub mod Codes
-pub mod Kept
-pub mod Success
-pub mod Views
