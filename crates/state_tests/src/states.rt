@@ -334,7 +334,7 @@ fn free_after_sweep(alloc: Global, labels: &[Stored]) -> Result<u32, &'static st
         Ok(sets) => sets,
         Err(_) => return Err("no state"),
     };
-    if !sets.is_ready(0x1) || sets.sweep(&mut rig, 0x1).is_err() {
+    if !sets.is_ready(0x1) || sets.sweep(&mut rig, &platform, 0x1).is_err() {
         return Err("no sweep");
     }
     match Area::load(alloc, &mut rig, 0x1) {
