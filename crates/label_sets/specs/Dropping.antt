@@ -1,14 +1,16 @@
 -- What freeing the labels of a namespace of one of the regions asks and gives.
-use Rattle.std.specs.Prelude.{◌≡◌, ◌⊎◌, ℕ, ◌<◌, true, List, Option, Some, length, map, slice_index_or}
+use Rattle.std.specs.Prelude.{◌≡◌, ◌⊎◌, ℕ, ◌+◌, ◌<◌, true, List, Option, Some, length, map, slice_index_or}
+use Rattle.std.specs.List.{Contains}
 use Rattle.view_types.specs.declared.extents.Extent.{Extent}
 use Rattle.extent_alloc.specs.Free.{FreeSpace}
 use Rattle.module_labels.specs.Labels.{Labels}
+use Rattle.region_map.specs.declared.platform.Member.{Member}
 use Rattle.region_map.specs.declared.platform.Platform.{Platform}
 use Rattle.region_map.specs.declared.platform.Region.{Region}
 use Rattle.region_map.specs.Sound.{AreOrdered}
-use Rattle.label_table.specs.Flips.{AllStale}
+use Rattle.label_table.specs.Flips.{AllStale, HasNone}
 use Rattle.label_table.specs.Spaces.{Space, space}
-use Rattle.label_table.specs.Tables.{without_namespace}
+use Rattle.label_table.specs.Tables.{slot_of, without_namespace}
 use Rattle.label_table.specs.Wholes.{is_whole}
 use Rattle.region_sets.specs.declared.modules.LoadedModule.{LoadedModule}
 use Rattle.region_sets.specs.declared.region.RegionLabels.{RegionLabels}
@@ -16,6 +18,7 @@ use Rattle.region_sets.specs.Fates.{platform_of, region_in}
 use Rattle.region_sets.specs.Modules as loaded
 use Rattle.region_sets.specs.Ranges.{range_of}
 use Rattle.region_changes.specs.Spaces.{IsAlone}
+use Rattle.module_flips.specs.Together.{free_slots}
 use Rattle.namespace_dropping.specs.Dropping.{CanDrop}
 use Rattle.label_sets.specs.Kept.{IsKnownFree, IsKnownReady}
 use Rattle.label_sets.specs.Sets.{StoredSets, labels_in, state_in}
@@ -28,6 +31,17 @@ pub record CanDropIn (sets : StoredSets) (uuid : List ℕ) (region : Region) : T
 -- the state has the namespace no more
 abbrev pub IsDroppedIn : StoredSets → StoredSets → List ℕ → Region → Type 0
 IsDroppedIn before after uuid region = state_in after ≡ without_namespace region uuid (state_in before)
+
+-- no module of the region has a label with the uuid
+abbrev pub HasNoneIn : StoredSets → List ℕ → Region → Type 0
+HasNoneIn after uuid region = (member : Member) → Contains region.members member
+    → HasNone uuid (labels_in after member.handle)
+
+-- each module of the region has a free slot more, and the others as many as before
+abbrev pub GainsSlots : StoredSets → StoredSets → Region → Type 0
+GainsSlots before after region = (place : ℕ) (d : LoadedModule) → place < length before.modules
+    → free_slots (slice_index_or after.modules place d)
+    ≡ free_slots (slice_index_or before.modules place d) + slot_of region (slice_index_or before.modules place d).dimm
 
 -- or it is as before
 abbrev pub IsKeptOrDropped : StoredSets → StoredSets → List ℕ → Region → Type 0

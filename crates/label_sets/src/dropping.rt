@@ -31,11 +31,11 @@ impl Sets {
     ghost use Rattle.label_sets.specs.Sets as sets;
     ghost use Rattle.label_sets.specs.Sets.{platform_in};
     ghost use Rattle.label_sets.specs.Staging.{OfRegion};
-    ghost use Rattle.label_sets.specs.Dropping.{CanDropIn, IsDroppedIn, IsKeptOrDropped};
+    ghost use Rattle.label_sets.specs.Dropping.{CanDropIn, GainsSlots, HasNoneIn, IsDroppedIn, IsKeptOrDropped};
 
     /// Frees the labels of a namespace, all of which are marked as being changed and none of which is read-only, by
-    /// position and one flip each. By the first flip the namespace is gone. It needs the platform whose state this is,
-    /// and takes no memory. A stop at any moment leaves areas that stand for the state before, or for that without the
+    /// position and one flip each. By the first flip the namespace is gone; by the last no module of the region has a
+    /// label with its uuid, and each has a free slot more. It needs the platform whose state this is, and takes no memory. A stop at any moment leaves areas that stand for the state before, or for that without the
     /// namespace. `Err` where the rig failed: what is kept is then what the flips before the failure made.
     pub fn drop_all<R: Rig>(
         &mut self,
@@ -51,6 +51,8 @@ impl Sets {
         requires sized { IsTold R.Shown rig.old → All (IsSizedIn (R.areas rig.old)) self.old.modules }
         ensures dropped { OfRegion self.old region (λ found.
             OnOk result (IsDroppedIn self.old self.new uuid.now found)) }
+        ensures none { OfRegion self.old region (λ found. OnOk result (HasNoneIn self.new uuid.now found)) }
+        ensures slots { OfRegion self.old region (λ found. OnOk result (GainsSlots self.old self.new found)) }
         ensures either { OfRegion self.old region (λ found. IsKeptOrDropped self.old self.new uuid.now found) }
         ensures regions { self.new.regions ≡ self.old.regions }
         ensures room { self.new.room ≡ false }

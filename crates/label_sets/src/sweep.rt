@@ -16,6 +16,7 @@ ghost use Rattle.module_sweeps.specs.Sweeps.{ChangesOnly};
 use crate::sets::Sets;
 use module_flips::AreaFailed;
 use module_sweeps::sweep_labels;
+use region_map::Platform;
 use region_sets::LoadedModule;
 use rig_trait::Rig;
 
@@ -28,9 +29,15 @@ impl Sets {
     ghost use Rattle.label_sets.specs.Sweeps.{IsFreeAsSpare, IsSweptAt};
 
     /// Frees the junk and the dead labels of a module whose area is Ready, by one flip, or by none where there are
-    /// none. It takes no memory. A stop at any moment leaves areas that stand for the same state. `Err` where the rig
-    /// failed: what is kept is as before then.
-    pub fn sweep<R: Rig>(&mut self, rig: &mut R, dimm: u32) -> Result<(), AreaFailed>
+    /// none. It needs the platform whose state this is, and takes no memory. A stop at any moment leaves areas that
+    /// stand for the same state. `Err` where the rig failed: what is kept is as before then.
+    pub fn sweep<R: Rig>(
+        &mut self,
+        rig: &mut R,
+        platform: &Platform,
+        dimm: u32,
+    ) -> Result<(), AreaFailed>
+        requires platform { platform.now.regions ≡ self.old.regions }
         requires ready { IsTrue (is_ready (sets.labels_in self.old dimm).kind) }
         requires sized { IsTold R.Shown rig.old → All (IsSizedIn (R.areas rig.old)) self.old.modules }
         ensures state { state_in self.new ≡ state_in self.old }

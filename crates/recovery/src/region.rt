@@ -117,7 +117,7 @@ fn recover_members<R: Rig>(
         → OnOk result (All (StandsIn (R.areas rig.new)) sets.new.modules) }
     ensures cause { HasAreaCause (handles found.now) R.Shown rig.old rig.new result }
 {
-    match sweep_members(rig, sets, found) {
+    match sweep_members(rig, platform, sets, found) {
         Ok(()) => heal_pending(rig, platform, sets, found),
         Err(failed) => Err(failed),
     }

@@ -16,16 +16,18 @@ ghost use Rattle.recovery.specs.Recovery.{HasSpareFree};
 ghost use Rattle.recovery.specs.Steps.{IsStep};
 
 use label_sets::{AreaFailed, Sets};
-use region_map::Region;
+use region_map::{Platform, Region};
 use rig_trait::Rig;
 
 /// Frees the junk and the dead labels of each module of a region, by position, all of whose areas are Ready. The state
 /// stays.
 pub(crate) fn sweep_members<R: Rig>(
     rig: &mut R,
+    platform: &Platform,
     sets: &mut Sets,
     found: &Region,
 ) -> Result<(), AreaFailed>
+    requires platform { platform.now.regions ≡ sets.old.regions }
     requires ready { all_ready found.now (labels_in sets.old) ≡ true }
     requires sized { IsTold R.Shown rig.old → All (IsSizedIn (R.areas rig.old)) sets.old.modules }
     ensures free { OnOk result (All (HasSpareFree sets.new found.now) sets.new.modules) }
@@ -36,7 +38,7 @@ pub(crate) fn sweep_members<R: Rig>(
     ensures cause { HasAreaCause (handles found.now) R.Shown rig.old rig.new result }
 {
     for position in 0..found.members.len() {
-        match sweep_member(rig, sets, found, position) {
+        match sweep_member(rig, platform, sets, found, position) {
             Ok(()) => (),
             Err(failed) => return Err(failed),
         }
@@ -47,10 +49,12 @@ pub(crate) fn sweep_members<R: Rig>(
 /// Frees the junk and the dead labels of the module at a position.
 fn sweep_member<R: Rig>(
     rig: &mut R,
+    platform: &Platform,
     sets: &mut Sets,
     found: &Region,
     position: usize,
 ) -> Result<(), AreaFailed>
+    requires platform { platform.now.regions ≡ sets.old.regions }
     requires within { position < length found.now.members }
     requires ready { all_ready found.now (labels_in sets.old) ≡ true }
     requires sized { IsTold R.Shown rig.old → All (IsSizedIn (R.areas rig.old)) sets.old.modules }
@@ -63,5 +67,5 @@ fn sweep_member<R: Rig>(
     ensures cause { HasAreaCause (handles found.now) R.Shown rig.old rig.new result }
 {
     let dimm = found.members.as_slice()[position].handle;
-    sets.sweep(rig, dimm)
+    sets.sweep(rig, platform, dimm)
 }

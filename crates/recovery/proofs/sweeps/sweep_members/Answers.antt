@@ -1,4 +1,4 @@
-use Rattle.std.proofs.Common.{◌≡◌, length, refl, ◌∙◌, arith}
+use Rattle.std.proofs.Common.{◌≡◌, length, refl, sym, ◌∙◌, arith}
 use Rattle.region_sets.specs.Regions.{handles}
 use Rattle.recovery.proofs.Joined.{no-step, sized-on, step-on}
 use Rattle.recovery.proofs.Swept.{all-free, free-more, ready-still}
@@ -12,6 +12,9 @@ loop-position-init g c = record {
   stands = λ told all. all;
   cause = record { faults = refl; failed_dimm = refl };
 }
+
+pub sweep_member-requires-clause-platform : goal.sweep_member-requires-clause-platform
+sweep_member-requires-clause-platform g c = c.requires.platform ∙ sym c.loop-position.invariant.step.regions
 
 pub sweep_member-requires-clause-ready : goal.sweep_member-requires-clause-ready
 sweep_member-requires-clause-ready g c = ready-still c.args.sets.now c.loop-position.sets c.args.found.now c.loop-position.invariant.state c.requires.ready

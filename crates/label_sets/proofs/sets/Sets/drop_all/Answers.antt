@@ -3,14 +3,17 @@ use Rattle.std.specs.List.{All}
 use Rattle.std.specs.Option.{option_copied}
 use Rattle.std.specs.Result.{OnOk}
 use Rattle.std.proofs.lemmas.Bool.{false≢true}
+use Rattle.std.proofs.lemmas.Option.{same_Some}
+use Rattle.std.proofs.lemmas.Result.{on_ok_weaker}
 use Rattle.region_map.specs.declared.platform.Region.{Region}
 use Rattle.region_map.specs.Platforms.{region_at}
 use Rattle.region_sets.specs.Fates.{platform_of, region_in, with_regions}
 use Rattle.module_flips.specs.Stored.{StandsIn}
-use Rattle.label_sets.specs.Dropping.{CanDropAt}
-use Rattle.label_sets.specs.Sets.{StoredSets}
+use Rattle.namespace_dropping.specs.Dropping.{IsDropped}
+use Rattle.label_sets.specs.Dropping.{CanDropAt, GainsSlots, HasNoneIn}
+use Rattle.label_sets.specs.Sets.{StoredSets, platform_in}
 use Rattle.label_sets.specs.Views.{IsPlaceOf}
-use Rattle.label_sets.proofs.Passes.{can-drop, ready-after-drop, seen, still-kept}
+use Rattle.label_sets.proofs.Passes.{can-drop, found-there, ready-after-drop, seen, still-kept}
 use Rattle.label_sets.proofs.Stageable.{place-is, place-ordered, place-within}
 use Rattle.label_sets.proofs.sets.Sets.drop_all.Goals as goal
 
@@ -63,3 +66,35 @@ returns-clause-stands g c = λ told.
     seen c.self.inside c.self.invariant c.deref_mut.result.now c.deref_mut-2.result.now c.deref_mut.ensures.value c.deref_mut-2.ensures.value c.drop_in.new.modules c.drop_in.new.regions c.drop_in.ensures.together
     c.args.self.now c.self.view_is (λ before after. All (StandsIn old) before.modules → OnOk c.drop_in.result (All (StandsIn new) after.modules)) false
     (c.drop_in.ensures.stands told)
+
+pub returns-clause-none : goal.returns-clause-none
+returns-clause-none g c = λ region found.
+    let inside = c.self.inside in
+    let ms = c.deref_mut.result.now in
+    let rs = c.deref_mut-2.result.now in
+    let did = c.drop_in.ensures in
+    let now = c.drop_in.new.modules in
+    let r = c.in-Some-Some.found.now in
+    let there : region_at (platform_in c.args.self.now) c.args.region ≡ Some r =
+    found-there c.args.platform.now inside c.self.invariant c.args.self.now c.self.view_is c.requires.platform c.args.region r (sym c.region.ensures ∙ ap option_copied c.in-Some-Some.is-0)
+    ms rs c.deref_mut.ensures.value c.deref_mut-2.ensures.value in
+    let same : r ≡ region = same_Some r region (sym there ∙ found) in
+    seen inside c.self.invariant ms rs c.deref_mut.ensures.value c.deref_mut-2.ensures.value now c.drop_in.new.regions did.together c.args.self.now c.self.view_is
+    (λ before after. OnOk c.drop_in.result (HasNoneIn after c.args.uuid.now region)) false
+    (on_ok_weaker c.drop_in.result (λ dropped. dropped.none) (subst (λ (q : Region). OnOk c.drop_in.result (IsDropped ms rs q c.args.uuid.now now)) same did.dropped))
+
+pub returns-clause-slots : goal.returns-clause-slots
+returns-clause-slots g c = λ region found.
+    let inside = c.self.inside in
+    let ms = c.deref_mut.result.now in
+    let rs = c.deref_mut-2.result.now in
+    let did = c.drop_in.ensures in
+    let now = c.drop_in.new.modules in
+    let r = c.in-Some-Some.found.now in
+    let there : region_at (platform_in c.args.self.now) c.args.region ≡ Some r =
+    found-there c.args.platform.now inside c.self.invariant c.args.self.now c.self.view_is c.requires.platform c.args.region r (sym c.region.ensures ∙ ap option_copied c.in-Some-Some.is-0)
+    ms rs c.deref_mut.ensures.value c.deref_mut-2.ensures.value in
+    let same : r ≡ region = same_Some r region (sym there ∙ found) in
+    seen inside c.self.invariant ms rs c.deref_mut.ensures.value c.deref_mut-2.ensures.value now c.drop_in.new.regions did.together c.args.self.now c.self.view_is
+    (λ before after. OnOk c.drop_in.result (GainsSlots before after region)) false
+    (on_ok_weaker c.drop_in.result (λ dropped. dropped.free) (subst (λ (q : Region). OnOk c.drop_in.result (IsDropped ms rs q c.args.uuid.now now)) same did.dropped))
