@@ -5,6 +5,7 @@ Nothing here is shared with the program that is tested.
 
 import struct
 from dataclasses import dataclass
+from functools import cached_property
 from pathlib import Path
 from uuid import UUID
 
@@ -40,33 +41,53 @@ class Label:
     sector: int = 512
     type_guid: bytes = PERSISTENT_MEMORY
     abstraction: bytes = RAW
+    alignment: int = 0
 
     def bytes(self, slot: int) -> bytes:
-        text = struct.pack(
-            "<16s64sIHHQQQQIB3x16s16s88x",
+        text = LABEL.pack(
             UUID(self.uuid).bytes, self.name, self.flags, self.nlabel, self.position, self.cookie,
-            self.sector, self.dpa, self.size, slot, 0, self.type_guid, self.abstraction,
+            self.sector, self.dpa, self.size, slot, self.alignment, self.type_guid, self.abstraction,
         )
         return text + struct.pack("<Q", fletcher64(text + bytes(8)))
 
 
-def block_size(size: int) -> int:
-    return -(-(72 + (size // 256 + 7) // 8) // 256) * 256
+LABEL = struct.Struct("<16s64sIHHQQQQIB3x16s16s88x")
 
 
-def slot_count(size: int) -> int:
-    return (size - 2 * block_size(size)) // 256
+def label_in(text: bytes, slot: int):
+    """The label that 256 bytes are in a slot, or None."""
+    number, name, flags, nlabel, position, cookie, sector, dpa, size, own, alignment, guid, abstraction = LABEL.unpack(text[:248])
+    if own != slot or fletcher64(text[:248] + bytes(8)) != int.from_bytes(text[248:], "little"):
+        return None
+    return Label(str(UUID(bytes=number)), dpa, size, cookie, name.rstrip(b"\0"), flags, nlabel, position, sector, guid,
+                 abstraction, alignment)
+
+
+def block_size(size: int, label: int = 256) -> int:
+    return -(-(72 + (size // label + 7) // 8) // 256) * 256
+
+
+def slot_count(size: int, label: int = 256) -> int:
+    return (size - 2 * block_size(size, label)) // label
+
+
+def checked_block(text: bytes) -> bytes:
+    """An index block with the checksum of its bytes."""
+    return text[:64] + struct.pack("<Q", fletcher64(text[:64] + bytes(8) + text[72:])) + text[72:]
+
+
+def free_block(size: int, place: int, seq: int, free: int, label: int = 256) -> bytes:
+    """The index block at a place of an area, for labels of a size. The bit n of a number tells that slot n is free."""
+    block, slots = block_size(size, label), slot_count(size, label)
+    return checked_block(struct.pack(
+        "<16s3xBIQQQQIHHQ", b"NAMESPACE_INDEX\0", int(label == 256), seq, place * block, block, (1 - place) * block,
+        2 * block, slots, 1, 2 if label == 256 else 1, 0,
+    ) + free.to_bytes(block - 72, "little"))
 
 
 def index_block(size: int, place: int, seq: int, used: int) -> bytes:
     """The index block at a place, with the first slots in use."""
-    block, slots = block_size(size), slot_count(size)
-    free = ((1 << slots) - 1) & ~((1 << used) - 1)
-    text = struct.pack(
-        "<16s3xBIQQQQIHHQ", b"NAMESPACE_INDEX\0", 1, seq, place * block, block, (1 - place) * block,
-        2 * block, slots, 1, 2, 0,
-    ) + free.to_bytes(block - 72, "little")
-    return text[:64] + struct.pack("<Q", fletcher64(text)) + text[72:]
+    return free_block(size, place, seq, (1 << slot_count(size)) - (1 << used))
 
 
 def area(size: int, labels: list = ()) -> bytes:
@@ -89,14 +110,21 @@ class Mapping:
 
 @dataclass(frozen=True)
 class Region:
+    """An address range with its members, and the rule by which it cannot be used, where that is known."""
+
     index: int
     spa: int
     mappings: list
     length: int = None
+    rule: str = None
 
-    def cookie(self) -> int:
+    @cached_property
+    def _cookie(self) -> int:
         entries = sorted((part.offset, part.control) for part in self.mappings)
         return fletcher64(b"".join(struct.pack("<QIHHB31x", at, serial, 0x1234, 0, 0) for at, serial in entries))
+
+    def cookie(self) -> int:
+        return self._cookie
 
 
 def line_table(index: int, ways: int) -> bytes:

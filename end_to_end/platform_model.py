@@ -6,7 +6,7 @@ It is written from docs/FORMATS.md and ACPI 6.2, section 5.2.25, and shares noth
 import struct
 from dataclasses import dataclass
 
-from platform_images import PERSISTENT_MEMORY, fletcher64
+from platform_images import PERSISTENT_MEMORY, Mapping, Region, fletcher64
 
 GREATEST = 1 << 63
 
@@ -222,3 +222,74 @@ class Platform:
                     said += f"  run dimm=0x{part.handle:08x} dpa=0x{own[start]:016x} length={i - start}\n"
                     start, count = i, count + 1
         return said + f"ok runs={count}\n"
+
+
+def platform_in(text: bytes) -> Platform:
+    """The platform that a table without a fault describes."""
+    found, at = {0: [], 1: [], 2: [], 4: []}, 40
+    while at < len(text):
+        kind, length = struct.unpack_from("<HH", text, at)
+        found.setdefault(kind, []).append(text[at : at + length])
+        at += length
+    ranges = [Range(index, base, size, guid) for index, guid, base, size in (struct.unpack_from("<H10x16sQQ", own, 4) for own in found[0])]
+    parts = []
+    for own in found[1]:
+        handle, index, control, size, offset, base, interleave, ways = struct.unpack_from("<I4xHHQQQHH", own, 4)
+        parts.append(Part(handle, index, size, offset, base, control, interleave, ways))
+    lines = []
+    for own in found[2]:
+        index, count, size = struct.unpack_from("<HxxII", own, 4)
+        lines.append(Lines(index, size, struct.unpack_from(f"<{count}I", own, 16)))
+    controls = []
+    for own in found[4]:
+        index, vendor, location, date, serial = struct.unpack_from("<HH11xBH2xI", own, 4)
+        assert (vendor, location, date) == (0x1234, 0, 0), "the model of cookies knows one kind of module"
+        controls.append(Control(index, serial))
+    return Platform(ranges, parts, controls, lines)
+
+
+def regions_of(platform: Platform) -> list:
+    """Its regions, as the model of the table has them: a mapping's control is the serial number."""
+    regions = []
+    for own in platform.regions():
+        parts = [Mapping(part.handle, platform.serial(part) or 0, part.size, part.offset, part.base) for part in platform.members(own)]
+        regions.append(Region(own.index, own.base, parts, own.length, platform.rule(own)))
+    return regions
+
+
+def module_at(platform: Platform, region: Range, spa: int):
+    """The member and the byte of its part at an address of a region that can be translated, or None."""
+    parts, byte = platform.members(region), spa - region.base
+    if not 0 <= byte < region.length:
+        return None
+    if not parts[0].interleave:
+        return parts[0], byte
+    own = platform.line_table(parts[0])
+    period = len(parts) * len(own.lines) * own.size
+    skip, rest = divmod(byte, period)
+    line, sub = divmod(rest, own.size)
+    for part in parts:
+        for place, at in enumerate(platform.line_table(part).lines):
+            if part.offset // own.size + at == line:
+                return part, (skip * len(own.lines) + place) * own.size + sub
+    raise AssertionError("a line of no member")
+
+
+def runs_between(platform: Platform, region: Range, spa: int, length: int) -> list:
+    """The bytes of each module behind a range: handle, start and length, by position, in as few runs as there are."""
+    parts, found = platform.members(region), {}
+    step = platform.line_table(parts[0]).size if parts[0].interleave else region.length
+    at = spa
+    while at < spa + length:
+        end = min(spa + length, region.base + ((at - region.base) // step + 1) * step)
+        part, byte = module_at(platform, region, at)
+        found.setdefault(parts.index(part), []).append((part.base + byte, end - at))
+        at = end
+    runs = []
+    for place in sorted(found):
+        for dpa, count in sorted(found[place]):
+            if runs and runs[-1][0] == parts[place].handle and runs[-1][1] + runs[-1][2] == dpa:
+                runs[-1][2] += count
+            else:
+                runs.append([parts[place].handle, dpa, count])
+    return runs

@@ -40,7 +40,9 @@ class Table:
         self.modules = modules
 
     def rule(self, region: Region) -> str:
-        """Of the rules, those that the images here can break."""
+        """The rule that is known, or else, of the rules, those that the images of the other checks can break."""
+        if region.rule is not None:
+            return region.rule
         if len({part.size for part in region.mappings}) > 1:
             return "sizes-differ"
         if region.length is not None and region.length != sum(part.size for part in region.mappings):

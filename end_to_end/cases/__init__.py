@@ -1,0 +1,1 @@
+"""Tables of cases for the program of cases, by subject. Each file has a function `ask` that asks its tables."""
