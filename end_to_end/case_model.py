@@ -59,7 +59,7 @@ class Cases:
             self.ask(f"room {room:x}", "ok")
 
     def area(self, dimm: int, text: bytes) -> None:
-        """Puts an area, or none."""
+        """Puts an area, or none, before anything is asked of the rig."""
         if text is not None:
             self.rig.areas[dimm] = text
             self.ask(f"area {dimm:x} {len(text):x}{parts_of(text)}", "ok")
@@ -217,8 +217,7 @@ class Cases:
         self.call(f"load {dimm:x}", make, told)
 
     def shows(self, told: str = None) -> None:
-        answer = self.look("shows", self.rig.areas[self.loaded])
-        self.ask("shows", answer, told and f"shows {told}")
+        self.ask("shows", self.look("load", self.rig.areas[self.loaded]), told and f"load {told}")
 
     def label(self, slot: int, told: str = None) -> None:
         label = area_of(self.rig.areas[self.loaded]).labels.get(slot)
@@ -257,8 +256,7 @@ class Cases:
         self.call(f"init {dimm:x}", make, told)
 
     def vacant(self, dimm: int, size: int, told: str = None) -> None:
-        answer = self.look("vacant", area(size)) if is_size(size) else "vacant none"
-        self.ask(f"vacant {dimm:x} {size:x}", answer, told and f"vacant {told}")
+        self.ask(f"vacant {dimm:x} {size:x}", self.look("load", area(size)) if is_size(size) else "vacant none", told and f"load {told}")
 
     # Formats.
 

@@ -119,6 +119,11 @@ class Region:
     rule: str = None
 
     @cached_property
+    def members(self) -> list:
+        """The mappings in the order of positions."""
+        return sorted(self.mappings, key=lambda part: part.offset)
+
+    @cached_property
     def _cookie(self) -> int:
         entries = sorted((part.offset, part.control) for part in self.mappings)
         return fletcher64(b"".join(struct.pack("<QIHHB31x", at, serial, 0x1234, 0, 0) for at, serial in entries))

@@ -38,6 +38,7 @@ class Table:
     def __init__(self, regions: list, modules: dict):
         self.regions = sorted(regions, key=lambda region: region.index)
         self.modules = modules
+        self.known = {}
 
     def rule(self, region: Region) -> str:
         """The rule that is known, or else, of the rules, those that the images of the other checks can break."""
@@ -50,7 +51,7 @@ class Table:
         return ""
 
     def members(self, region: Region) -> list:
-        return sorted(region.mappings, key=lambda part: part.offset)
+        return region.members
 
     def belongs(self, region: Region, handle: int, label: Label) -> bool:
         members = self.members(region)
@@ -76,7 +77,13 @@ class Table:
         return any(len(self.with_uuid(part.handle, number)) > 1 for part in region.mappings)
 
     def namespace(self, region: Region, number: str):
-        """The labels of a namespace by position, or None."""
+        """The label of position 0 of a namespace, its offset and the flags of all its labels, or None."""
+        key = region.index, number
+        if key not in self.known:
+            self.known[key] = self.found_namespace(region, number)
+        return self.known[key]
+
+    def found_namespace(self, region: Region, number: str):
         if self.rule(region) or not self.all_ready(region):
             return None
         labels = []

@@ -26,12 +26,17 @@ class Writes:
 
     def __init__(self, rig, regions: list, handles: list):
         self.rig, self.regions, self.handles = rig, regions, handles
+        self.last = None, None
 
     def area(self, handle: int):
         return area_of(self.rig.areas.get(handle))
 
     def table(self) -> Table:
-        return Table(self.regions, {handle: module_of(self.rig.areas.get(handle)) for handle in self.handles})
+        """The table of the areas as they are now."""
+        stored = [self.rig.areas.get(handle) for handle in self.handles]
+        if self.last[0] != stored:
+            self.last = stored, Table(self.regions, dict(zip(self.handles, map(module_of, stored))))
+        return self.last[1]
 
     def flip(self, handle: int, label: Label = None, freed: list = ()) -> None:
         for at, new in self.area(handle).flip(label, freed):

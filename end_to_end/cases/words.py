@@ -58,6 +58,8 @@ def ask(cases: Cases) -> None:
     for line, told in LINES:
         status, said = (2, ERROR) if told is None else (1, "refused words unknown\n") if told.strip() else (0, "")
         cases.nd(line, status, said)
+    cases.case("words of a line")
+    cases.nfit(TABLE)
     cases.area(1, area(1024))
     for line, status, said in SPACED:
         cases.nd(line, status, said)
