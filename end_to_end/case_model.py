@@ -185,7 +185,8 @@ class Cases:
         self.call(f"say {hexed(text)}", lambda: self.rig.say(text) or "ok", told)
 
     def source(self, text: bytes, lengths: tuple, told: str = None) -> None:
-        """Reads into places of these lengths."""
+        """Reads of a text into places of these lengths."""
+        self.input(text)
         source, results = SourceModel(text, self.input_failing), []
         for length in lengths:
             try:
@@ -193,7 +194,7 @@ class Cases:
             except Failed:
                 results.append("failed")
         answer = f"source {' '.join(results)} {source.faults:x}"
-        self.ask(f"source {hexed(text)}{listed(lengths)}", answer, told and f"source {told}")
+        self.ask(f"source{listed(lengths)}", answer, told and f"source {told}")
 
     # Calls of an area.
 
@@ -256,7 +257,7 @@ class Cases:
         self.call(f"init {dimm:x}", make, told)
 
     def vacant(self, dimm: int, size: int, told: str = None) -> None:
-        self.ask(f"vacant {dimm:x} {size:x}", self.look("load", area(size)) if is_size(size) else "vacant none", told and f"load {told}")
+        self.ask(f"vacant {dimm:x} {size:x}", self.look("load", area(size)) if is_size(size) else "load none", told and f"load {told}")
 
     # Formats.
 

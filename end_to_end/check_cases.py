@@ -11,10 +11,10 @@ import sys
 from pathlib import Path
 
 from case_model import Cases
-from cases import areas, faults, formats, lines, lists, platforms, rigs, runs, steps, stops, words
+from cases import areas, formats, lines, lists, platforms, rigs, runs, steps, stops, words
 
 ROOT = Path(__file__).resolve().parent.parent
-TABLES = (formats, lines, words, rigs, areas, platforms, lists, steps, runs, faults, stops)
+TABLES = (formats, lines, words, rigs, areas, platforms, lists, steps, runs, stops)
 SHOWN = 40
 """So many differences are printed."""
 

@@ -154,6 +154,8 @@ class Run:
         if command == "init-labels":
             after, reply = step_model.init_labels(table, values["dimm"])
             todo = self.writes.init_labels, values["dimm"]
+            if not reply.startswith("ok") and values["dimm"] in table.modules:
+                self.writes.load(values["dimm"])
         elif command == "release-held":
             after, reply = step_model.release_held(table, values["dimm"], values["uuid"])
             todo = self.writes.release_held, values["dimm"], values["uuid"]

@@ -4,7 +4,7 @@ of each command. What a command answers, and whether it is accepted, is the busi
 
 from dataclasses import replace
 
-from area_model import area_of
+from area_model import area_of, is_size
 from platform_images import UPDATING, Label, Region
 from step_model import ABSTRACTIONS, is_pending, region_at
 from table_model import Module, Table
@@ -81,6 +81,12 @@ class Writes:
         for _, number, _, flags in self.table().namespaces(region):
             if is_pending(flags):
                 self.heal(region, number)
+
+    def load(self, handle: int) -> None:
+        """An area that is not to be initialised is read again, so that the refusal tells what it is now."""
+        size = self.rig.size(handle)
+        if size is not None and is_size(size):
+            self.rig.read(handle, 0, 0)
 
     # The commands, where they are accepted.
 

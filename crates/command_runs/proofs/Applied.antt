@@ -4,7 +4,7 @@ use Rattle.std.specs.FinMap.{get}
 use Rattle.std.proofs.lemmas.Bool.{cases_eq}
 use Rattle.rig_trait.specs.declared.shown.Shown.{Ghosts}
 use Rattle.rig_trait.specs.Areas.{Areas}
-use Rattle.rig_trait.specs.Frames.{LeavesOnly, Reads}
+use Rattle.rig_trait.specs.Frames.{IsTold, LeavesOnly, Reads}
 use Rattle.rig_trait.specs.Records.{CrashRecord}
 use Rattle.rig_trait.proofs.Frames.{reading}
 use Rattle.rig_trait.proofs.Moments.{weakened}
@@ -24,6 +24,8 @@ use Rattle.region_map.specs.declared.platform.Platform.{Platform}
 use Rattle.region_sets.specs.Modules.{dimm_of, size_in}
 use Rattle.sessions.specs.Commands.{Does, HasAreas, IsBeforeOrAfter, LeavesArea, SaysIfKnown, has_module, is_change, is_init, may_change, written_by}
 use Rattle.sessions.specs.Faults.{HasRunCause, IsRunAmong, IsRunAt, spent_after}
+use Rattle.sessions.specs.Found.{DoesAnyhow}
+use Rattle.sessions.proofs.Found.{does-anyhow}
 use Rattle.sessions.specs.Sessions.{IsCurrent, StoredSession, labels_of, slots_of, state_of}
 use Rattle.sessions.specs.declared.faults.RunFault.{RunFault}
 use Rattle.sessions.specs.declared.faults.RunFault.TheVariants as faults
@@ -41,13 +43,14 @@ use Rattle.command_runs.proofs.Commands.{not-init, says-fact, unchanged}
 -- What a session promises of a command.
 pub record HasApplied {R : Type 0} (m : Ghosts R) (session : StoredSession) (command : Command) (own : List ℕ) (old : R) (now : StoredSession) (new : R) (result : Result Reply RunFault) : Type 0 where
   pub step : IfOk result (λ reply. SaysIfKnown session.platform command (IsCurrent m old session) (Does session.platform (slots_of session) (labels_of session) command own reply (state_of now)))
+  pub anyhow : IfOk result (λ reply. DoesAnyhow session.platform (slots_of session) (labels_of session) command own reply (state_of now))
   pub current : IsCurrent m old session → OnOk result (IsCurrent m new now)
   pub any_moment : IsCurrent m old session → LeavesOnly m old new (LeftIn session.platform.modules (m.said old) (IsBeforeOrAfter session.platform (slots_of session) (labels_of session) command own))
   pub kept : may_change command result ≡ false → now ≡ session
   pub reads_only : may_change command result ≡ false → Reads m old new
   pub writes : WritesAmong (written_by session.platform command) m old new
-  pub area : IsCurrent m old session → HasAreas command (m.areas old) (m.areas new) result
-  pub area_left : IsCurrent m old session → LeavesOnly m old new (LeavesArea command (m.areas old) (m.said old))
+  pub area : IsTold m old → HasAreas command (m.areas old) (m.areas new) result
+  pub area_left : is_init command ≡ true → IsTold m old → LeavesOnly m old new (LeavesArea command (m.areas old) (m.said old))
   pub cause : HasRunCause m old new result
   pub among : IfErr result (IsRunAmong session.platform.modules)
   pub at : IfErr result (IsRunAt (written_by session.platform command))
@@ -141,7 +144,7 @@ module _ {R : Type 0} (m : Ghosts R) (session : StoredSession) (seed number : �
     kept-uninit current known uninit (Ok reply) has = by (is_change reply) refl
       where
         by : (b : Bool) → is_change reply ≡ b → Kept (Ok reply) dimm
-        by true change = inr (may known uninit, ap (λ (a : Areas). get a dimm) ((has.area current).written change))
+        by true change = inr (may known uninit, ap (λ (a : Areas). get a dimm) ((has.area current.told).written change))
         by false none = kept-quiet (Ok reply) has none
     kept-uninit current known uninit (Err (faults.Area failed)) has =
         inr (may known uninit, subst (λ (b : Bool). IsWritten b dimm (m.areas old) (m.areas new)) (sym (sym (or-false (eqb failed dimm)) ∙ has.at)) tt)
@@ -153,7 +156,7 @@ module _ {R : Type 0} (m : Ghosts R) (session : StoredSession) (seed number : �
       where
         by_kind : has_module session.platform dimm ≡ true → (k : AreaKind) → area_kind (get (m.areas old) dimm) ≡ k → Kept result dimm
         by_kind known kinds.Uninit is = kept-uninit current known is result has
-        by_kind known _ is = inl (ap (λ (a : Areas). get a dimm) ((has.area current).kept (λ uninit. cc)))
+        by_kind known _ is = inl (ap (λ (a : Areas). get a dimm) ((has.area current.told).kept (λ uninit. cc)))
 
         by_module : (b : Bool) → has_module session.platform dimm ≡ b → Kept result dimm
         by_module true known = by_kind known (area_kind (get (m.areas old) dimm)) refl
@@ -200,18 +203,19 @@ module _ {R : Type 0} (m : Ghosts R) (session : StoredSession) (seed number : �
   leaves (InitLabels dimm) result has current fits = by (has_module session.platform dimm) refl
     where
       by : (b : Bool) → has_module session.platform dimm ≡ b → LeavesOnly m old new (LeavesAreas session.platform (dimm ∷ []) (m.areas old))
-      by true known = weakened (LeftByInit (m.areas old) (m.said old) dimm) (LeavesAreas session.platform (dimm ∷ []) (m.areas old)) (left-init dimm known) (has.area_left current)
+      by true known = weakened (LeftByInit (m.areas old) (m.said old) dimm) (LeavesAreas session.platform (dimm ∷ []) (m.areas old)) (left-init dimm known) (has.area_left refl current.told)
       by false absent = quiet-left (dimm ∷ []) (has.reads_only (unknown-unchanged dimm absent result has))
   leaves _ result has current (inl init) = absurd cc
   leaves _ result has current (inr only) = quiet-left [] (has.reads_only (only result))
 
   module _ (command : Command) (result : Result Reply RunFault) (has : HasApplied m session command own old now new result) where
     does-answer : (r : Result Reply RunFault) → IfOk r (λ reply. SaysIfKnown session.platform command (IsCurrent m old session) (Does session.platform (slots_of session) (labels_of session) command own reply (state_of now)))
+        → IfOk r (λ reply. DoesAnyhow session.platform (slots_of session) (labels_of session) command own reply (state_of now))
         → IfOk (answer_by r) (λ reply. DoesOn (IsCurrent m old session) session seed number (Ok (Some command)) reply (state_of now))
-    does-answer (Ok reply) does = record { labels = labels_of session; stands = refl; does = does }
-    does-answer (Err (faults.Area dimm)) does = tt
-    does-answer (Err faults.Memory) does = tt
-    does-answer (Err faults.Spent) does = tt
+    does-answer (Ok reply) does anyhow = record { labels = labels_of session; stands = refl; does = does; anyhow = anyhow }
+    does-answer (Err (faults.Area dimm)) does anyhow = tt
+    does-answer (Err faults.Memory) does anyhow = tt
+    does-answer (Err faults.Spent) does anyhow = tt
 
     left-command : IsCurrent m old session → LeavesOnly m old new (LeftUnsaid (IsCurrent m old session) session seed number (Ok (Some command)) (m.said old))
     left-command current =
@@ -226,6 +230,7 @@ module _ {R : Type 0} (m : Ghosts R) (session : StoredSession) (seed number : �
               labels = labels_of session;
               stands = refl;
               does = says-fact session.platform command (IsCurrent m old session) (Does session.platform (slots_of session) (labels_of session) command own after.reply after.after) after.does;
+              anyhow = does-anyhow session.platform (slots_of session) (labels_of session) command own after.reply after.after after.does;
             };
             table_is = after.table_is;
           })) (left.labels fair);
@@ -233,7 +238,7 @@ module _ {R : Type 0} (m : Ghosts R) (session : StoredSession) (seed number : �
 
     pub answers-command : session.spent ≡ false → Answers m session seed number (Ok (Some command)) old now new (answer_by result)
     answers-command unspent = record {
-      does = does-answer result has.step;
+      does = does-answer result has.step has.anyhow;
       current = λ current. on-answer (IsCurrent m new now) result (has.current current);
       any_moment = left-command;
       kept = λ none. has.kept (unchanged command result none);

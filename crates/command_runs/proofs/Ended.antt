@@ -4,17 +4,20 @@ use Rattle.std.specs.Prelude.{slice_get}
 use Rattle.std.proofs.lemmas.Option.{slice_get_within}
 use Rattle.rig_trait.specs.declared.shown.Shown.{Ghosts}
 use Rattle.rig_trait.specs.Frames.{Reads}
+use Rattle.rig_trait.proofs.Frames.{reading}
+use Rattle.rig_trait.proofs.Moments.{joined, weakened}
 use Rattle.cmd_words.specs.Lines.{command_in}
 use Rattle.label_table.specs.Tables.{State}
 use Rattle.region_map.specs.declared.platform.Platform.{Platform}
 use Rattle.sessions.specs.Sessions.{IsCurrent, StoredSession, state_of}
 use Rattle.command_runs.specs.declared.faults.LineFault.{LineFault}
 use Rattle.command_runs.specs.declared.faults.LineFault.TheVariants.{Area, Memory, Say}
-use Rattle.command_runs.specs.Ends.{Ends, IsEndedBy, IsStopped, IsThrough, run_of}
+use Rattle.command_runs.specs.LastWrites.{IsPastChanges}
+use Rattle.command_runs.specs.Ends.{Ends, EndsWrites, IsEndedBy, IsStopped, IsThrough, run_of}
 use Rattle.command_runs.specs.Runs.{is_change_if, text_if}
 use Rattle.command_runs.specs.Stops.{HasTable}
 use Rattle.command_runs.specs.Turns.{Turns}
-use Rattle.command_runs.proofs.Going.{IsGoing, both-false, left-between, next-does, with_reply}
+use Rattle.command_runs.proofs.Going.{IsGoing, both-false, left-between, next-does, no-more-on, with_reply}
 use Rattle.command_runs.proofs.Records.{read-only, still-current, table-is, writes-nothing}
 
 module _ {R : Type 0} (m : Ghosts R) (start : StoredSession) (seed : ℕ) (lines : List (List ℕ)) (old : R) (k : ℕ) (session : StoredSession) (mid : R) (refused : Bool) (going : IsGoing m start seed lines old k session mid refused) where
@@ -66,6 +69,19 @@ module _ {R : Type 0} (m : Ghosts R) (start : StoredSession) (seed : ℕ) (lines
           kept = λ none. let each = both-false going.progress.changed (is_change_if reply) none in writes-nothing (going.kept each.0) (cut.turned.kept each.1);
         }
 
+    no-more-by : (fault : LineFault) (turn : Turns m session seed (k + 1) (command_in line) mid now new (Err fault))
+        → EndsWrites m (IsCurrent m old start) (run_of start seed lines) k going.progress going.behind old new now fault (ended-by fault turn)
+    unfolding ended-by next-does
+    no-more-by (Area dimm) turn = tt
+    no-more-by Memory turn = λ current.
+        let reads = turn.turns_to.reads_only in
+        let past = IsPastChanges (IsCurrent m old start) (run_of start seed lines) k going.progress going.behind (m.said old) in
+        joined (weakened (λ c. past c → c.areas ≡ m.areas mid) (λ c. past c → c.areas ≡ m.areas new) (λ c has is. has is ∙ sym reads.areas) (going.no_more current))
+        (reading (λ c. past c → c.areas ≡ m.areas new) (λ c same said is. same ∙ sym reads.areas) reads)
+    no-more-by Say turn = λ current.
+        let cut = turn.turns_to in
+        no-more-on m start seed lines old k session mid refused going line is_next now new cut.reply (state_of now) cut.turned.does (cut.turned.no_more (going.through.current current)) cut.turned.kept current
+
     pub cut-short : (fault : LineFault) → Turns m session seed (k + 1) (command_in line) mid now new (Err fault) → Ends m (IsCurrent m old start) (run_of start seed lines) old new now (Err fault)
     cut-short fault turn = record {
       done = k;
@@ -73,4 +89,5 @@ module _ {R : Type 0} (m : Ghosts R) (start : StoredSession) (seed : ℕ) (lines
       progress = going.progress;
       behind = going.behind;
       ended = ended-by fault turn;
+      no_more = no-more-by fault turn;
     }

@@ -1,6 +1,6 @@
 -- A run goes on by one line.
-use Rattle.std.proofs.Common.{◌≡◌, ◌⊎◌, inl, inr, ⊎_elim, ℕ, suc, ◌+◌, Bool, true, false, ◌||◌, List, [], ◌++◌, Option, Some, None, Result, Ok, Err, length, map, take, refl, sym, ap, ◌∙◌, subst, append_assoc}
-use Rattle.std.specs.Prelude.{slice_get}
+use Rattle.std.proofs.Common.{◌≡◌, ◌<◌, ◌≤◌, ◌⊎◌, inl, inr, ⊎_elim, ℕ, suc, ◌+◌, arith, length-append, Bool, true, false, ◌||◌, List, [], ◌++◌, Option, Some, None, Result, Ok, Err, length, map, take, refl, sym, ap, ◌∙◌, subst, append_assoc}
+use Rattle.std.specs.Prelude.{slice_get, MatchBool}
 use Rattle.std.specs.List.{All}
 use Rattle.std.proofs.Math.Dec.{ltb}
 use Rattle.std.proofs.lemmas.Bool.{ltb-false, ltb-true}
@@ -21,6 +21,7 @@ use Rattle.namespace_staging.proofs.Flips.{sized-on}
 use Rattle.region_map.specs.declared.platform.Platform.{Platform}
 use Rattle.region_sets.specs.Modules.{dimm_of, size_in}
 use Rattle.sessions.specs.Commands.{Does, SaysIfKnown}
+use Rattle.sessions.specs.Found.{DoesAnyhow}
 use Rattle.sessions.specs.Sessions.{IsCurrent, StoredSession, slots_of, state_of}
 use Rattle.sessions.proofs.Telling.{no_call}
 use Rattle.view_types.specs.declared.reply.Reply.{Reply}
@@ -29,13 +30,14 @@ use Rattle.command_runs.specs.declared.faults.LineFault.{LineFault}
 use Rattle.command_runs.specs.Areas.{KeepsAreas, KeepsBytes, LeaveLabels, LeavesAreas, LeavesBytes, WritesNothing, changed_by_line, initialised_by, initialised_by_line}
 use Rattle.command_runs.specs.Ends.{IsThrough, run_of}
 use Rattle.command_runs.specs.Faults.{fails_at}
+use Rattle.command_runs.specs.LastWrites.{IsPastChanges, IsPastLine, WritesNoMore}
 use Rattle.command_runs.specs.Runs.{DoesLine, DoesNext, IsBehind, Progress, Run, at_start, is_change_if, is_refusal_if, text_if}
 use Rattle.command_runs.specs.Stops.{HasTable, IsBetween, IsLeft}
 use Rattle.command_runs.specs.Turns.{DoesOn, LeftSaying, LeftUnsaid, Turns}
 use Rattle.command_runs.specs.Uuids.{own_uuid}
 use Rattle.command_runs.proofs.Commands.{says-on}
 use Rattle.command_runs.proofs.Kept.{fits-line, kept-on, left-on, none-named}
-use Rattle.command_runs.proofs.Records.{none-written, slots-same, table-is, writes-nothing}
+use Rattle.command_runs.proofs.Records.{none-written, same-most, slots-same, table-is, writes-nothing}
 
 -- The first k lines are done.
 pub record IsGoing {R : Type 0} (m : Ghosts R) (start : StoredSession) (seed : ℕ) (lines : List (List ℕ)) (old : R) (k : ℕ) (session : StoredSession) (new : R) (refused : Bool) : Type 0 where
@@ -44,6 +46,8 @@ pub record IsGoing {R : Type 0} (m : Ghosts R) (start : StoredSession) (seed : �
   pub refused_is : refused ≡ progress.refused
   pub through : IsThrough m (IsCurrent m old start) progress (m.said old) new session
   pub kept : progress.changed ≡ false → WritesNothing m old new
+  pub no_more : IsCurrent m old start → WritesNoMore m old new (IsPastChanges (IsCurrent m old start) (run_of start seed lines) k progress behind (m.said old))
+  pub most : IsCurrent m old start → LeavesOnly m old new (λ c. length c.said ≤ length (m.said new))
   pub any_moment : IsCurrent m old start → LeavesOnly m old new (IsLeft (IsCurrent m old start) (run_of start seed lines) (m.said old))
   pub bytes : IsCurrent m old start → KeepsBytes (λ q. false) start.platform lines (m.areas old) (m.areas new)
   pub bytes_left : IsCurrent m old start → LeaveLabels lines → LeavesOnly m old new (LeavesBytes start.platform lines (m.areas old))
@@ -64,6 +68,10 @@ with_reply progress reply after = record {
   changed = progress.changed || is_change_if reply;
   state = after;
 }
+
+-- no more is said at a moment than at the return
+longer-most : {n : ℕ} (mid new text : List ℕ) → n ≤ length mid → new ≡ mid ++ text → n ≤ length new
+longer-most mid new text le is = let lengths : length new ≡ length mid + length text = ap length is ∙ length-append mid text in omega arith
 
 pub both-false : (a b : Bool) → (a || b) ≡ false → (a ≡ false) × (b ≡ false)
 both-false true b is = absurd (let differ : true ≡ false = is in cc)
@@ -88,6 +96,8 @@ module _ {R : Type 0} (m : Ghosts R) (start : StoredSession) (seed : ℕ) (lines
     refused_is = refl;
     through = record { state_is = refl; said_is = λ current. sym (append-nil (m.said old)); current = λ current. current };
     kept = λ none. none-written old;
+    no_more = λ current. reading (λ c. Unit {0} → c.areas ≡ m.areas old) (λ c same said past. same) (no_call m old);
+    most = λ current. reading (λ c. length c.said ≤ length (m.said old)) (λ c same said. same-most said) (no_call m old);
     any_moment = λ current. started old (IsLeft known run (m.said old)) (λ c left. between 0 (at_start run) refl c (record {
       said_is = (m.now_is old c left).1 ∙ sym (append-nil (m.said old));
       areas_are = λ fair. inl (table-is {m = m} old start c.areas current (m.now_is old c left).0);
@@ -123,18 +133,25 @@ module _ {R : Type 0} (m : Ghosts R) (start : StoredSession) (seed : ℕ) (lines
         (subst (λ (platform : Platform). SaysIfKnown platform command known (Does platform (slots_of session) labels command (own_uuid seed number) reply after)) going.platform
         (says-on session.platform command (IsCurrent m mid session) known (Does session.platform (slots_of session) labels command (own_uuid seed number) reply after) going.through.current does))
 
-    in-run : (number : ℕ) (line : Result (Option Command) WordFault) (reply : Option Reply) (after : State) → DoesOn (IsCurrent m mid session) session seed number line reply after → DoesLine known run number before.state line reply after
+    anyhow-in-run : (number : ℕ) (command : Command) (reply : Reply) (after : State) (labels : Labels)
+        → DoesAnyhow session.platform (slots_of session) labels command (own_uuid seed number) reply after → DoesAnyhow start.platform (slots_of start) labels command (own_uuid seed number) reply after
+    anyhow-in-run number command reply after labels does =
+        subst (λ (slots : ℕ → ℕ). DoesAnyhow start.platform slots labels command (own_uuid seed number) reply after) (slots-same start.sets session.sets going.dimms going.sizes)
+        (subst (λ (platform : Platform). DoesAnyhow platform (slots_of session) labels command (own_uuid seed number) reply after) going.platform does)
+
+    pub in-run : (number : ℕ) (line : Result (Option Command) WordFault) (reply : Option Reply) (after : State) → DoesOn (IsCurrent m mid session) session seed number line reply after → DoesLine known run number before.state line reply after
     in-run number (Ok (Some command)) (Some reply) after does = record {
       labels = does.labels;
       stands = ap (λ (platform : Platform). state platform does.labels) (sym going.platform) ∙ does.stands ∙ going.through.state_is;
       does = command-in-run number command reply after does.labels does.does;
+      anyhow = anyhow-in-run number command reply after does.labels does.anyhow;
     }
     in-run number (Ok (Some command)) None after does = does
     in-run number (Ok None) reply after does = (does.0, does.1 ∙ going.through.state_is)
     in-run number (Err fault) reply after does = (does.0, does.1 ∙ going.through.state_is)
 
     module _ (line : List ℕ) (is_next : slice_get lines k ≡ Some line) where
-      pub next-does : (reply : Option Reply) (after : State) → DoesOn (IsCurrent m mid session) session seed (k + 1) (command_in line) reply after → DoesNext known run k before (with_reply before reply after)
+      unfoldable pub next-does : (reply : Option Reply) (after : State) → DoesOn (IsCurrent m mid session) session seed (k + 1) (command_in line) reply after → DoesNext known run k before (with_reply before reply after)
       next-does reply after does = record {
         line = line;
         is_next = is_next;
@@ -145,7 +162,7 @@ module _ {R : Type 0} (m : Ghosts R) (start : StoredSession) (seed : ℕ) (lines
         changed_is = refl;
       }
 
-      pub next-behind : (reply : Option Reply) (after : State) → DoesOn (IsCurrent m mid session) session seed (k + 1) (command_in line) reply after → IsBehind known run (suc k) (with_reply before reply after)
+      unfoldable pub next-behind : (reply : Option Reply) (after : State) → DoesOn (IsCurrent m mid session) session seed (k + 1) (command_in line) reply after → IsBehind known run (suc k) (with_reply before reply after)
       next-behind reply after does = record { before = before; was = going.behind; one = next-does reply after does }
 
       table-in-run : (after : State) (areas : Areas) → HasTable session.platform after areas → HasTable start.platform after areas
@@ -223,9 +240,32 @@ module _ {R : Type 0} (m : Ghosts R) (start : StoredSession) (seed : ℕ) (lines
         reads-on none =
             turn.reads (ap (λ (platform : Platform). initialised_by_line platform (command_in line)) going.platform ∙ none-named start.platform lines k line is_next none) ∙ going.reads none
 
+      -- nothing more is written
+      module _ (now : StoredSession) (new : R) (reply : Option Reply) (after : State) (does : DoesOn (IsCurrent m mid session) session seed (k + 1) (command_in line) reply after)
+          (no_more : WritesNoMore m mid new (λ c. length (m.said mid) < length c.said)) (kept : is_change_if reply ≡ false → WritesNothing m mid new) where
+        pub no-more-on : known → WritesNoMore m old new (λ c. IsPastLine reply (m.said old ++ before.said) c (IsPastChanges known run k before going.behind (m.said old) c))
+        no-more-on current = by (is_change_if reply) refl
+          where
+            earlier : CrashRecord → Type 0
+            earlier c = IsPastChanges known run k before going.behind (m.said old) c
+
+            said_is : m.said mid ≡ m.said old ++ before.said
+            said_is = going.through.said_is current
+
+            by : (b : Bool) → is_change_if reply ≡ b → WritesNoMore m old new (λ c. MatchBool b (length (m.said old ++ before.said) < length c.said) (earlier c))
+            by true is = joined
+                (weakened (λ c. length c.said ≤ length (m.said mid)) (λ c. length (m.said old ++ before.said) < length c.said → c.areas ≡ m.areas new)
+                (λ c le lt. absurd (let same : length (m.said mid) ≡ length (m.said old ++ before.said) = ap length said_is in omega (arith, le, lt, same))) (going.most current))
+                (weakened (λ c. length (m.said mid) < length c.said → c.areas ≡ m.areas new) (λ c. length (m.said old ++ before.said) < length c.said → c.areas ≡ m.areas new)
+                (λ c has lt. has (subst (λ (said : List ℕ). length said < length c.said) (sym said_is) lt)) no_more)
+            by false is = let none = kept is in joined
+                (weakened (λ c. earlier c → c.areas ≡ m.areas mid) (λ c. earlier c → c.areas ≡ m.areas new) (λ c has past. has past ∙ sym none.areas) (going.no_more current))
+                (weakened (λ c. c.areas ≡ m.areas mid) (λ c. earlier c → c.areas ≡ m.areas new) (λ c same past. same ∙ sym none.areas) none.any_moment)
+
       -- the line is done, and its reply said
       pub going-on : (now : StoredSession) (new : R) (is_refused refused_now : Bool) → Turns m session seed (k + 1) (command_in line) mid now new (Ok is_refused) → refused_now ≡ (refused || is_refused)
           → IsGoing m start seed lines old (suc k) now new refused_now
+      unfolding next-behind next-does
       going-on now new is_refused refused_now turn refused_is =
           let whole = turn.turns_to in
           let reply = whole.reply in
@@ -240,6 +280,9 @@ module _ {R : Type 0} (m : Ghosts R) (start : StoredSession) (seed : ℕ) (lines
               current = λ current. done.current (going.through.current current);
             };
             kept = λ none. let each = both-false before.changed (is_change_if reply) none in writes-nothing (going.kept each.0) (done.kept each.1);
+            no_more = λ current. no-more-on now new reply (state_of now) done.does (done.no_more (going.through.current current)) done.kept current;
+            most = λ current. joined (weakened _ (λ c. length c.said ≤ length (m.said new)) (λ c le. longer-most (m.said mid) (m.said new) (text_if reply) le
+                (done.said_is (going.goes_on.tells ∙ current.told))) (going.most current)) (whole.most (going.through.current current));
             any_moment = any-moment-on now new (Ok is_refused) turn;
             bytes = bytes-on now new (Ok is_refused) turn;
             bytes_left = bytes-left-on now new (Ok is_refused) turn;

@@ -1,5 +1,5 @@
 -- What calls leave at any moment, and what a session and its areas stand for.
-use Rattle.std.proofs.Common.{◌≡◌, ℕ, false, List, Option, map, find, refl, sym, ap, subst, ◌∙◌, []}
+use Rattle.std.proofs.Common.{◌≡◌, ◌≤◌, ℕ, arith, length, false, List, Option, map, find, refl, sym, ap, subst, ◌∙◌, []}
 use Rattle.std.proofs.Common.{◌∷◌, Bool, true, None, Some, cond, eqb}
 use Rattle.std.specs.List.{All}
 use Rattle.std.specs.Option.{option_and_then}
@@ -19,6 +19,10 @@ use Rattle.sessions.specs.Sessions.{IsCurrent, StoredSession, state_of, stored_s
 use Rattle.sessions.proofs.Telling.{no_call}
 use Rattle.command_runs.specs.Areas.{WritesNothing}
 use Rattle.command_runs.specs.Stops.{HasTable}
+
+-- as much was said
+pub same-most : {xs ys : List ℕ} → xs ≡ ys → length xs ≤ length ys
+same-most {xs} {ys} same = let lengths : length xs ≡ length ys = ap length same in omega arith
 
 module _ {R : Type 0} {m : Ghosts R} where
   -- what is kept is what the areas stand for

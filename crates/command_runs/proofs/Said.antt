@@ -1,12 +1,12 @@
 -- A line is done, and its reply said.
-use Rattle.std.proofs.Common.{◌≡◌, ◌⊎◌, inl, inr, ℕ, Bool, true, false, List, [], ◌∷◌, ◌++◌, codes, Option, Some, Result, Ok, Err, take, refl, sym, ap, ◌∙◌, subst}
+use Rattle.std.proofs.Common.{◌≡◌, ◌<◌, ◌≤◌, ◌⊎◌, inl, inr, ℕ, ◌+◌, arith, length, length-append, length-take, append-nil, None, Bool, true, false, List, [], ◌∷◌, ◌++◌, codes, Option, Some, Result, Ok, Err, take, refl, sym, ap, ◌∙◌, subst}
 use Rattle.std.specs.FinMap.{get}
 use Rattle.rig_trait.specs.declared.shown.Shown.{Ghosts}
 use Rattle.rig_trait.specs.Areas.{Areas}
 use Rattle.rig_trait.specs.Faults.{counted}
 use Rattle.rig_trait.specs.Frames.{FailsAt, IsTold, LeavesOnly}
 use Rattle.rig_trait.specs.Records.{CrashRecord, IsSaying}
-use Rattle.rig_trait.proofs.Frames.{goes_on}
+use Rattle.rig_trait.proofs.Frames.{goes_on, reading}
 use Rattle.rig_trait.proofs.Moments.{and_a_call, weakened}
 use Rattle.cmd_words.specs.declared.commands.Command.{Command}
 use Rattle.label_area.proofs.FairRecords.{IsFair-same}
@@ -22,12 +22,13 @@ use Rattle.view_types.specs.declared.word_fault.WordFault.{WordFault}
 use Rattle.command_runs.specs.declared.faults.LineFault.{LineFault}
 use Rattle.command_runs.specs.declared.faults.LineFault.TheVariants.{Area, Memory, Say}
 use Rattle.command_runs.specs.Areas.{KeepsAreas, LeavesAreas, LeavesLabels, changed_by_line, initialised_by_line}
+use Rattle.command_runs.specs.LastWrites.{WritesNoMore}
 use Rattle.command_runs.specs.Replies.{Tells, TellsReply}
 use Rattle.command_runs.specs.Runs.{is_refusal}
 use Rattle.command_runs.specs.Stops.{HasTable}
 use Rattle.command_runs.specs.Turns.{Answers, IsTurned, LeftSaying, LeftUnsaid, SaysAll, SaysFront, Turns}
 use Rattle.command_runs.proofs.Commands.{list-unchanged}
-use Rattle.command_runs.proofs.Records.{read-only, says-nothing-written, still-current, table-is}
+use Rattle.command_runs.proofs.Records.{read-only, same-most, says-nothing-written, still-current, table-is}
 
 -- what a stop leaves of areas is the same while something is said
 pub LeavesAreas-same : (platform : Platform) (named : List ℕ) (areas : Areas) (from c : CrashRecord) → c.areas ≡ from.areas → c.torn ≡ from.torn → LeavesAreas platform named areas from → LeavesAreas platform named areas c
@@ -113,12 +114,20 @@ module _ {R : Type 0} (m : Ghosts R) (session : StoredSession) (seed number : �
     told-mid : IsTold m old → IsTold m mid
     told-mid told = a.nothing.goes_on.tells ∙ told
 
+    -- the writes of the command are behind it before its reply is begun
+    no-more : IsCurrent m old session → WritesNoMore m old new (λ c. length (m.said old) < length c.said)
+    no-more current = and_a_call (λ c. length (m.said old) < length c.said → c.areas ≡ m.areas new) (IsSaying (m.may_leave mid) (m.said mid) (reply_text reply))
+        (weakened (LeftUnsaid (IsCurrent m old session) session seed number line (m.said old)) (λ c. length (m.said old) < length c.said → c.areas ≡ m.areas new)
+        (λ c left lt. absurd (let same : length c.said ≡ length (m.said old) = ap length left.said_is in omega (arith, lt, same))) (a.any_moment current))
+        tells.stops (λ c saying lt. saying.areas_are ∙ (m.now_is mid saying.from saying.was).0 ∙ sym tells.says_only.areas)
+
     turned : (IsSaid : List ℕ → Type 0) → (IsTold m old → IsSaid (reply_text reply)) → IsTurned m session seed number line old now new (Some reply) IsSaid
     turned IsSaid said_is = record {
       does = a.does;
       said_is = said_is;
       current = λ current. still-current now tells.says_only.goes_on.tells tells.says_only.areas (a.current current);
       kept = λ none. says-nothing-written (reply_text reply) failed (read-only (a.reads_only none)) tells.says_only tells.stops;
+      no_more = no-more;
     }
 
     table-behind : IsCurrent m old session → (c : CrashRecord) → IsSaying (m.may_leave mid) (m.said mid) (reply_text reply) c → HasTable session.platform (state_of now) c.areas
@@ -153,6 +162,46 @@ module _ {R : Type 0} (m : Ghosts R) (session : StoredSession) (seed number : �
     say-faults-on : m.say_faults new ≡ counted failed (m.say_faults old)
     say-faults-on = tells.says_only.say_faults ∙ ap (counted failed) a.nothing.say_faults
 
+  most-said : (mid new : R) (reply : Reply) → Answers m session seed number line old now mid (Ok (Some reply)) → Tells m mid new (reply_text reply) false → IsCurrent m old session
+      → LeavesOnly m old new (λ c. length c.said ≤ length (m.said new))
+  most-said mid new reply a tells current =
+      let whole : length (m.said new) ≡ length (m.said mid) + length (reply_text reply) = ap length (tells.whole (a.nothing.goes_on.tells ∙ current.told) refl) ∙ length-append (m.said mid) (reply_text reply) in
+      let first : length (m.said mid) ≡ length (m.said old) = ap length a.nothing.said in
+      and_a_call (λ c. length c.said ≤ length (m.said new)) (IsSaying (m.may_leave mid) (m.said mid) (reply_text reply))
+      (weakened (LeftUnsaid (IsCurrent m old session) session seed number line (m.said old)) (λ c. length c.said ≤ length (m.said new))
+      (λ c left. let same : length c.said ≡ length (m.said old) = ap length left.said_is in omega (arith, whole, first, same)) (a.any_moment current))
+      tells.stops (λ c saying.
+      let said : length c.said ≡ length (m.said mid) + length (take saying.count (reply_text reply)) = ap length saying.said_is ∙ length-append (m.said mid) (take saying.count (reply_text reply)) in
+      omega (arith, whole, said, length-take saying.count (reply_text reply)))
+
+  -- a blank line or a comment
+  pub turns-blank : (new : R) → Answers m session seed number line old now new (Ok None) → Turns m session seed number line old now new (Ok false)
+  turns-blank new a = record {
+    turns_to = record {
+      reply = None;
+      turned = record {
+        does = a.does;
+        said_is = λ told. a.nothing.said ∙ sym (append-nil (m.said old));
+        current = a.current;
+        kept = λ none. read-only (a.reads_only refl);
+        no_more = λ current. reading (λ c. length (m.said old) < length c.said → c.areas ≡ m.areas new) (λ c same said lt. same ∙ sym (a.reads_only refl).areas) (a.reads_only refl);
+      };
+      refused_is = refl;
+      most = λ current. reading (λ c. length c.said ≤ length (m.said new)) (λ c same said. same-most (said ∙ sym a.nothing.said)) (a.reads_only refl);
+    };
+    any_moment = left-unsaid new a;
+    bytes = a.bytes;
+    bytes_left = a.bytes_left;
+    cause = record { areas = a.cause; says = a.nothing.say_faults };
+    among = tt;
+    reads = a.reads;
+    spends = a.spends;
+    platform = a.platform;
+    dimms = a.dimms;
+    sizes = a.sizes;
+    goes_on = a.nothing.goes_on;
+  }
+
   pub turns-said : (mid new : R) (reply : Reply) → Answers m session seed number line old now mid (Ok (Some reply)) → Tells m mid new (reply_text reply) false → (refused : Bool) → refused ≡ is_refusal reply
       → Turns m session seed number line old now new (Ok refused)
   turns-said mid new reply a tells refused refused_is = record {
@@ -161,6 +210,7 @@ module _ {R : Type 0} (m : Ghosts R) (session : StoredSession) (seed number : �
       turned = turned mid new reply a false tells (SaysAll (m.said old) (m.said new))
           (λ told. tells.whole (told-mid mid new reply a false tells told) refl ∙ ap (λ (said : List ℕ). said ++ reply_text reply) a.nothing.said);
       refused_is = refused_is;
+      most = λ current. most-said mid new reply a tells current;
     };
     any_moment = left-saying mid new reply a false tells;
     bytes = bytes-on mid new reply a false tells;

@@ -6,6 +6,7 @@ use Rattle.sessions.specs.Sessions.{IsCurrent, StoredSession, slots_of, state_of
 use Rattle.command_runs.specs.declared.faults.LineFault.{LineFault}
 use Rattle.command_runs.specs.declared.faults.LineFault.TheVariants.{Area, Memory, Say}
 use Rattle.command_runs.specs.Areas.{WritesNothing}
+use Rattle.command_runs.specs.LastWrites.{IsPastChanges, IsPastLine, WritesNoMore}
 use Rattle.command_runs.specs.Runs.{DoesNext, IsBehind, Progress, Run}
 use Rattle.command_runs.specs.Stops.{IsBetween}
 
@@ -35,6 +36,8 @@ pub record IsFinished {R : Type 0} (m : Ghosts R) (known : Type 0) (run : Run) (
   pub through : IsThrough m known progress (m.said old) new session
   -- where no reply is that to a change, no area is written
   pub kept : progress.changed ≡ false → WritesNothing m old new
+  -- and none from when on the last such reply is begun
+  pub no_more : known → WritesNoMore m old new (IsPastChanges known run (length run.lines) progress behind (m.said old))
 
 -- A front of the next reply was said, whose line is done.
 pub record IsCutOff {R : Type 0} (m : Ghosts R) (known : Type 0) (run : Run) (k : ℕ) (progress : Progress) (old new : R)
@@ -69,6 +72,18 @@ IsEndedBy m known run k progress old new session (Area dimm) = IsStopped m known
 IsEndedBy m known run k progress old new session Memory = IsUnchanged m known run k progress old new session
 IsEndedBy m known run k progress old new session Say = IsCutOff m known run k progress old new session
 
+-- Where memory was refused no area was written from when on the last reply to a change is begun, and where a reply could
+-- not be said whole, from when on it is begun too.
+abbrev pub EndsWrites : {R : Type 0} → (m : Ghosts R) (known : Type 0) (run : Run) (k : ℕ) (progress : Progress)
+    (behind : IsBehind known run k progress) (old new : R) (session : StoredSession) (fault : LineFault)
+    → IsEndedBy m known run k progress old new session fault → Type 0
+EndsWrites m known run k progress behind old new session (Area dimm) ended = Unit {0}
+EndsWrites m known run k progress behind old new session Memory ended =
+    known → WritesNoMore m old new (IsPastChanges known run k progress behind (m.said old))
+EndsWrites m known run k progress behind old new session Say ended =
+    known → WritesNoMore m old new (λ c. IsPastLine ended.does.reply (m.said old ++ progress.said) c
+    (IsPastChanges known run k progress behind (m.said old) c))
+
 -- A fault ends the run behind the replies to the first lines.
 pub record IsCutShort {R : Type 0} (m : Ghosts R) (known : Type 0) (run : Run) (old new : R) (session : StoredSession)
     (fault : LineFault) : Type 0 where
@@ -77,6 +92,7 @@ pub record IsCutShort {R : Type 0} (m : Ghosts R) (known : Type 0) (run : Run) (
   pub progress : Progress
   pub behind : IsBehind known run done progress
   pub ended : IsEndedBy m known run done progress old new session fault
+  pub no_more : EndsWrites m known run done progress behind old new session fault ended
 
 abbrev pub Ends : {R : Type 0} → Ghosts R → Type 0 → Run → R → R → StoredSession → Result Bool LineFault → Type 0
 Ends m known run old new session (Ok refused) = IsFinished m known run old new session refused

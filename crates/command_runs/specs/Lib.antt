@@ -1,3 +1,4 @@
+pub mod LastWrites
 pub mod Lines
 pub mod Uuids
 pub mod Runs

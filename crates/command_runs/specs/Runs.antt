@@ -12,6 +12,7 @@ use Rattle.cmd_words.specs.declared.commands.Command.{Command}
 use Rattle.cmd_words.specs.Lines.{command_in}
 use Rattle.report_json.specs.Texts.{reply_text}
 use Rattle.sessions.specs.Commands.{Does, SaysIfKnown, is_change}
+use Rattle.sessions.specs.Found.{DoesAnyhow}
 use Rattle.command_runs.specs.Uuids.{own_uuid}
 
 -- A run: its platform, how many slots the area of each module has room for, the seed of new uuids, the state that it
@@ -58,6 +59,8 @@ pub record DoesCommand (known : Type 0) (run : Run) (number : ℕ) (before : Sta
   pub stands : state run.platform labels ≡ before
   pub does : SaysIfKnown run.platform command known
       (Does run.platform run.slots labels command (own_uuid run.seed number) reply after)
+  -- whatever the areas hold
+  pub anyhow : DoesAnyhow run.platform run.slots labels command (own_uuid run.seed number) reply after
 
 -- A line with a fault is refused; a blank line and a comment have no reply. Neither changes anything.
 abbrev pub DoesLine : Type 0 → Run → ℕ → State → Result (Option Command) WordFault → Option Reply → State → Type 0

@@ -1,6 +1,6 @@
 -- One line on a session: what it is answered, what is said of it, and what a stop leaves.
 use Rattle.std.specs.Prelude.{◌≡◌, ◌⊎◌, ℕ, Bool, false, List, [], ◌++◌, take, map, Option, Some, IfOk, OnOk, Result, Ok}
-use Rattle.std.specs.Prelude.{Err}
+use Rattle.std.specs.Prelude.{Err, ◌<◌, ◌≤◌, length}
 use Rattle.rig_trait.specs.declared.shown.Shown.{Ghosts}
 use Rattle.rig_trait.specs.Areas.{Areas}
 use Rattle.rig_trait.specs.Frames.{GoesOn, IsTold, LeavesOnly, Reads, SaysNothing}
@@ -21,6 +21,7 @@ use Rattle.command_runs.specs.Areas.{KeepsAreas, LeavesAreas, LeavesLabels, Writ
 use Rattle.command_runs.specs.Areas.{initialised_by_line}
 use Rattle.command_runs.specs.Ends.{run_of}
 use Rattle.command_runs.specs.Faults.{HasAreaFaults, HasCause, IsAmong, fails_at, is_area, is_say}
+use Rattle.command_runs.specs.LastWrites.{WritesNoMore}
 use Rattle.command_runs.specs.Runs.{DoesLine, Run, is_change_if, is_refusal_if, text_if}
 use Rattle.command_runs.specs.Stops.{HasTable}
 
@@ -105,6 +106,8 @@ pub record IsTurned {R : Type 0} (m : Ghosts R) (session : StoredSession) (seed 
   pub said_is : IsTold m old → IsSaid (text_if reply)
   pub current : IsCurrent m old session → IsCurrent m new now
   pub kept : is_change_if reply ≡ false → WritesNothing m old new
+  -- nothing is written from when on the reply is begun
+  pub no_more : IsCurrent m old session → WritesNoMore m old new (λ c. length (m.said old) < length c.said)
 
 -- all of a text was said, or a front of it
 abbrev pub SaysAll : List ℕ → List ℕ → List ℕ → Type 0
@@ -119,6 +122,8 @@ pub record IsWhole {R : Type 0} (m : Ghosts R) (session : StoredSession) (seed n
   pub reply : Option Reply
   pub turned : IsTurned m session seed number line old now new reply (SaysAll (m.said old) (m.said new))
   pub refused_is : refused ≡ is_refusal_if reply
+  -- at no moment was more said
+  pub most : IsCurrent m old session → LeavesOnly m old new (λ c. length c.said ≤ length (m.said new))
 
 -- the reply was not said whole; a blank line and a comment have none
 pub record IsCut {R : Type 0} (m : Ghosts R) (session : StoredSession) (seed number : ℕ)

@@ -56,11 +56,12 @@ impl Chain {
         self.len
     }
 
-    /// The number of spare nodes.
-    pub(crate) fn spare(&self) -> usize
-        ensures { result ≡ self.now.spare }
+    /// The number of spare nodes, in one step.
+    pub(crate) fn spare<L: Ledger>(&self, steps: &mut Steps<L>) -> usize
+        ensures spare { result ≡ self.now.spare }
+        ensures step { steps.new ≡ steps.old + 1 }
     {
-        self.pool.spare_len()
+        self.pool.spare_len(steps)
     }
 
     /// The index of the first extent's node.
@@ -70,12 +71,12 @@ impl Chain {
         self.first
     }
 
-    /// The extents in order. What it reads is not counted.
+    /// The extents in order. Each is read in one step, on a counter of its own.
     pub(crate) fn iter(&self) -> Iter<'_>
         ensures { result ≡ extents_of self.now.links }
     {
         Iter {
-            nodes: self.pool.as_slice(),
+            pool: &self.pool,
             next: self.first,
             left: self.len,
         }
@@ -151,22 +152,28 @@ impl Chain {
         self.len -= 1;
     }
 
-    /// Makes one more spare node.
-    pub(crate) fn grow(&mut self) -> Result<(), AllocError>
+    /// Makes one more spare node, in one step.
+    pub(crate) fn grow<L: Ledger>(&mut self, steps: &mut Steps<L>) -> Result<(), AllocError>
         ensures links { self.new.links ≡ self.old.links }
         ensures ok { OnOk result (self.new.spare ≡ self.old.spare + 1) }
         ensures err { OnErr result (self.new.spare ≡ self.old.spare) }
+        ensures step { steps.new ≡ steps.old + 1 }
     {
-        self.pool.add_node()?;
+        self.pool.add_node(steps)?;
         Ok(())
     }
 
-    /// The same extents and as many spare nodes, in memory of its own.
-    pub(crate) fn take_copy(&self, alloc: Global) -> Result<Chain, AllocError>
-        ensures { IfOk result (λ chain. chain ≡ self.now) }
+    /// The same extents and as many spare nodes, in memory of its own and in one step.
+    pub(crate) fn take_copy<L: Ledger>(
+        &self,
+        alloc: Global,
+        steps: &mut Steps<L>,
+    ) -> Result<Chain, AllocError>
+        ensures copy { IfOk result (λ chain. chain ≡ self.now) }
+        ensures step { steps.new ≡ steps.old + 1 }
     {
         Ok(Chain {
-            pool: self.pool.take_copy(alloc)?,
+            pool: self.pool.take_copy(alloc, steps)?,
             first: self.first,
             len: self.len,
         })

@@ -13,8 +13,8 @@ use crate::gaps::{put_front, put_gap};
 use crate::iter::Iter;
 use crate::steps::Steps;
 use std::alloc::{AllocError, Global};
-use std::marker::Model;
-use std::sync::ledger::Ledger;
+use std::marker::{Brand, Model};
+use std::sync::ledger::{Blank, Ledger};
 use view_types::Extent;
 
 /// The free extents of a whole: the maximal intervals of its free offsets, in ascending order. Contracts see them as
@@ -77,17 +77,14 @@ impl Extents {
         ensures extents { self.new.extents ≡ self.old.extents }
         ensures whole { self.new.whole ≡ self.old.whole }
     {
-        for _ in self.chain.spare()..n {
-            self.chain.grow()?;
-        }
-        Ok(())
+        make_room::<Brand>(&mut self.chain, n, Blank::new(1))
     }
 
     /// How many extents more there is room for.
     pub fn spare(&self) -> usize
         ensures { result ≡ self.now.spare }
     {
-        self.chain.spare()
+        spare_of::<Brand>(&self.chain, Blank::new(1))
     }
 
     /// The number of free extents.
@@ -189,8 +186,44 @@ impl Extents {
         ensures { IfOk result (λ copy. copy ≡ self.now) }
     {
         Ok(Extents {
-            chain: self.chain.take_copy(alloc)?,
+            chain: copy_of::<Brand>(alloc, &self.chain, Blank::new(1))?,
             whole: self.whole,
         })
     }
+}
+
+/// Makes spare nodes until there are `n`, with a counter of steps that nobody asks for.
+fn make_room<L: Ledger>(chain: &mut Chain, n: usize, blank: Blank) -> Result<(), AllocError>
+    requires name { blank.name ≡ L.name }
+    requires parts { blank.parts ≡ L.parts }
+    requires some { 0 < blank.parts }
+    ensures spare { OnOk result (n ≤ chain.new.spare) }
+    ensures grows { chain.old.spare ≤ chain.new.spare }
+    ensures links { chain.new.links ≡ chain.old.links }
+{
+    let mut steps = Steps::<L>::new(blank);
+    for _ in chain.spare(&mut steps)..n {
+        chain.grow(&mut steps)?;
+    }
+    Ok(())
+}
+
+/// The number of spare nodes, with a counter of steps that nobody asks for.
+fn spare_of<L: Ledger>(chain: &Chain, blank: Blank) -> usize
+    requires name { blank.name ≡ L.name }
+    requires parts { blank.parts ≡ L.parts }
+    requires some { 0 < blank.parts }
+    ensures { result ≡ chain.now.spare }
+{
+    chain.spare(&mut Steps::<L>::new(blank))
+}
+
+/// The same chain in memory of its own, with a counter of steps that nobody asks for.
+fn copy_of<L: Ledger>(alloc: Global, chain: &Chain, blank: Blank) -> Result<Chain, AllocError>
+    requires name { blank.name ≡ L.name }
+    requires parts { blank.parts ≡ L.parts }
+    requires some { 0 < blank.parts }
+    ensures { IfOk result (λ copy. copy ≡ chain.now) }
+{
+    chain.take_copy(alloc, &mut Steps::<L>::new(blank))
 }

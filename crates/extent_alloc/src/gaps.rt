@@ -21,22 +21,21 @@ pub(crate) fn put_front(chain: &mut Chain, extent: Extent) -> Result<(), AllocEr
     if extent.len == 0 {
         return Ok(());
     }
-    chain.grow()?;
-    put_first::<Brand>(chain, extent, Blank::new(1));
-    Ok(())
+    put_first::<Brand>(chain, extent, Blank::new(1))
 }
 
-/// Puts an extent before those of a chain, into a spare node. Nobody counts its steps.
-fn put_first<L: Ledger>(chain: &mut Chain, extent: Extent, blank: Blank)
+/// Puts an extent before those of a chain, with a counter of steps that nobody asks for.
+fn put_first<L: Ledger>(chain: &mut Chain, extent: Extent, blank: Blank) -> Result<(), AllocError>
     requires name { blank.name ≡ L.name }
     requires parts { blank.parts ≡ L.parts }
     requires some { 0 < blank.parts }
-    requires spare { 0 < chain.old.spare }
-    ensures extents { extents_of chain.new.links ≡ extent ∷ extents_of chain.old.links }
-    ensures spare { chain.new.spare + 1 ≡ chain.old.spare }
+    ensures extents { OnOk result (extents_of chain.new.links ≡ extent ∷ extents_of chain.old.links) }
+    ensures spare { OnOk result (chain.new.spare ≡ chain.old.spare) }
 {
     let mut steps = Steps::<L>::new(blank);
+    chain.grow(&mut steps)?;
     chain.insert_after(None, extent, &mut steps);
+    Ok(())
 }
 
 /// Puts the offsets between the last range that is left and `end` before those of a chain. Gives the end of those that

@@ -1,4 +1,4 @@
-//! A pool of nodes in one vector. Those that are spare are chained through it.
+//! A pool of nodes in one vector. Those that are spare are chained through it. Each call on a pool counts one step.
 
 ghost use Rattle.std.specs.Prelude.{◌≡◌, ◌≢◌, ℕ, ◌+◌, ◌<◌, ◌^◌, [], drop, length, slice_get, slice_set};
 ghost use Rattle.std.specs.Prelude.{Some, IfOk, OnErr, OnOk};
@@ -58,18 +58,22 @@ impl Pool {
         }
     }
 
-    /// The number of spare nodes.
-    pub(crate) fn spare_len(&self) -> usize
-        ensures { result ≡ length self.now.idle }
+    /// The number of spare nodes: one step.
+    pub(crate) fn spare_len<L: Ledger>(&self, steps: &mut Steps<L>) -> usize
+        ensures len { result ≡ length self.now.idle }
+        ensures step { steps.new ≡ steps.old + 1 }
     {
+        steps.tick();
         self.spare_len
     }
 
-    /// All nodes, by index.
-    pub(crate) fn as_slice(&self) -> &[Node]
-        ensures { result.now ≡ self.now.nodes }
+    /// Reads a node whole, if there is one at the index: one step.
+    pub(crate) fn get<L: Ledger>(&self, at: usize, steps: &mut Steps<L>) -> Option<Node>
+        ensures node { result ≡ slice_get self.now.nodes at }
+        ensures step { steps.new ≡ steps.old + 1 }
     {
-        &self.nodes
+        steps.tick();
+        self.nodes.get(at).copied()
     }
 
     /// Reads a node whole: one step.
@@ -130,8 +134,8 @@ impl Pool {
         self.spare_len += 1;
     }
 
-    /// Makes one more spare node.
-    pub(crate) fn add_node(&mut self) -> Result<(), AllocError>
+    /// Makes one more spare node: one step.
+    pub(crate) fn add_node<L: Ledger>(&mut self, steps: &mut Steps<L>) -> Result<(), AllocError>
         ensures fresh { OnOk result (times (length self.old.nodes) self.old.idle ≡ 0) }
         ensures given { OnOk result (first_at self.new.idle ≡ Some (length self.old.nodes)) }
         ensures rest { OnOk result (drop 1 self.new.idle ≡ self.old.idle) }
@@ -139,7 +143,9 @@ impl Pool {
         ensures others { OnOk result ((k : ℕ) → k < length self.old.nodes
             → slice_get self.new.nodes k ≡ slice_get self.old.nodes k) }
         ensures err { OnErr result (self.new ≡ self.old) }
+        ensures step { steps.new ≡ steps.old + 1 }
     {
+        steps.tick();
         let at = self.nodes.len();
         let extent = Extent { start: 0, len: 0 };
         self.nodes.push(Node {
@@ -152,10 +158,16 @@ impl Pool {
         Ok(())
     }
 
-    /// The same nodes and the same chain, in memory of its own.
-    pub(crate) fn take_copy(&self, alloc: Global) -> Result<Pool, AllocError>
-        ensures { IfOk result (λ pool. pool ≡ self.now) }
+    /// The same nodes and the same chain, in memory of its own: one step.
+    pub(crate) fn take_copy<L: Ledger>(
+        &self,
+        alloc: Global,
+        steps: &mut Steps<L>,
+    ) -> Result<Pool, AllocError>
+        ensures copy { IfOk result (λ pool. pool ≡ self.now) }
+        ensures step { steps.new ≡ steps.old + 1 }
     {
+        steps.tick();
         Ok(Pool {
             nodes: Vec::from_slice(alloc, &self.nodes)?,
             spare: self.spare,

@@ -17,3 +17,4 @@ pub mod FlipRecords
 pub mod Freeing
 pub mod FirstSlot
 pub mod Putting
+pub mod FlipBytes

@@ -11,3 +11,4 @@ pub mod Inits
 pub mod VacantAreas
 pub mod Flips
 pub mod FlipWrites
+pub mod FlipBytes

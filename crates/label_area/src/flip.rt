@@ -8,6 +8,7 @@ ghost use Rattle.index_block.specs.Bitmap.{IsFirstFree, is_free_in};
 ghost use Rattle.index_block.specs.Geometry.{bitmap_len};
 ghost use Rattle.rig_trait.specs.Frames.{FailsAt, IsTold, LeavesOnly, WritesTo};
 ghost use Rattle.label_codec.specs.declared.label.Label.{Label};
+ghost use Rattle.label_area.specs.FlipBytes.{WritesFlipAlone};
 ghost use Rattle.label_area.specs.FlipWrites.{IsNext, with_bits};
 ghost use Rattle.label_area.specs.Flips.{FailedFlip, HasFree, IsSized, LeftByFlip, after_free, after_put, first_slot};
 ghost use Rattle.label_area.specs.Flips.{is_among, replaced, shown_by, with_label};
@@ -44,6 +45,8 @@ impl Area {
         ensures failed { IsTold R.Shown rig.old → IsShown self.old (R.areas rig.old)
             → OnErr result (FailedFlip (R.areas rig.old) (R.areas rig.new) (R.said rig.old) self.old.dimm
             (after_free self.old slots.now)) }
+        // All bytes but those of the other index block are as before, at the return and at a stop.
+        ensures bytes { IsTold R.Shown rig.old → WritesFlipAlone R.Shown rig.old rig.new self.old None }
         ensures writes_only { WritesTo self.old.dimm R.Shown rig.old rig.new }
         ensures cause { FailsAt self.old.dimm R.Shown rig.old rig.new (is_err result) }
         ensures reads { R.reads rig.new ≡ R.reads rig.old }
@@ -82,6 +85,8 @@ impl Area {
         ensures failed { IsTold R.Shown rig.old → IsShown self.old (R.areas rig.old)
             → OnErr result (FailedFlip (R.areas rig.old) (R.areas rig.new) (R.said rig.old) self.old.dimm
             (after_put self.old label.now replaces)) }
+        // All bytes but those of the other index block and of the slot are as before, at the return and at a stop.
+        ensures bytes { IsTold R.Shown rig.old → WritesFlipAlone R.Shown rig.old rig.new self.old (Some (first_slot self.old)) }
         ensures writes_only { WritesTo self.old.dimm R.Shown rig.old rig.new }
         ensures cause { FailsAt self.old.dimm R.Shown rig.old rig.new (is_err result) }
         ensures reads { R.reads rig.new ≡ R.reads rig.old }

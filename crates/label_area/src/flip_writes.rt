@@ -1,6 +1,6 @@
 //! The writes of a flip.
 
-ghost use Rattle.std.specs.Prelude.{◌≡◌, ◌≢◌, ℕ, ◌+◌, ◌*◌, ◌<◌, Some, true, false};
+ghost use Rattle.std.specs.Prelude.{◌≡◌, ◌≢◌, ℕ, ◌+◌, ◌*◌, ◌<◌, None, Some, true, false};
 ghost use Rattle.std.specs.Result.{is_err};
 ghost use Rattle.index_block.specs.Bitmap.{is_free_in};
 ghost use Rattle.index_block.specs.Current.{IsSeq};
@@ -9,6 +9,7 @@ ghost use Rattle.index_block.specs.Written.{block_text};
 ghost use Rattle.rig_trait.specs.Areas.{size_in};
 ghost use Rattle.rig_trait.specs.Frames.{FailsAt, IsTold, WriteLeaves, WritesBytes, WritesTo};
 ghost use Rattle.rig_trait.specs.TwoWrites.{LeavesTwo, WritesBoth, WritesInTurn};
+ghost use Rattle.label_area.specs.FlipBytes.{WritesFlipAlone};
 ghost use Rattle.label_area.specs.FlipWrites.{Flips, IsNext, with_bits};
 ghost use Rattle.label_area.specs.Flips.{IsSized, with_label};
 ghost use Rattle.label_area.specs.Loads.{IsShown};
@@ -48,6 +49,7 @@ impl Area {
             → is_free_in self.now.free k ≡ true → is_free_in next.now.free k ≡ true }
         ensures flips { IsTold R.Shown rig.old → IsShown self.now (R.areas rig.old)
             → Flips R.Shown rig.old rig.new self.now next.now (with_bits self.now next.now) result }
+        ensures bytes { IsTold R.Shown rig.old → WritesFlipAlone R.Shown rig.old rig.new self.now None }
         ensures writes_only { WritesTo self.now.dimm R.Shown rig.old rig.new }
         ensures cause { FailsAt self.now.dimm R.Shown rig.old rig.new (is_err result) }
         ensures reads { R.reads rig.new ≡ R.reads rig.old }
@@ -74,6 +76,7 @@ impl Area {
         ensures flips { IsTold R.Shown rig.old → IsShown self.now (R.areas rig.old)
             → Flips R.Shown rig.old rig.new self.now next.now
             (with_label label.now.slot label.now (with_bits self.now next.now)) result }
+        ensures bytes { IsTold R.Shown rig.old → WritesFlipAlone R.Shown rig.old rig.new self.now (Some label.now.slot) }
         ensures writes_only { WritesTo self.now.dimm R.Shown rig.old rig.new }
         ensures cause { FailsAt self.now.dimm R.Shown rig.old rig.new (is_err result) }
         ensures reads { R.reads rig.new ≡ R.reads rig.old }

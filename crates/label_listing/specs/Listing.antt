@@ -1,6 +1,6 @@
 -- The listing of an area. Each line ends with the byte 0x0A.
-use Rattle.std.specs.Prelude.{ℕ, ◌-◌, ◌^◌, List, [], ◌++◌, codes, false, length}
-use Rattle.std.specs.Fmt.{decimal, digits, format_spec, padded_integral}
+use Rattle.std.specs.Prelude.{ℕ, List, ◌++◌, codes, length}
+use Rattle.std.specs.Fmt.{decimal}
 use Rattle.std.specs.FinMap.{get}
 use Rattle.std.specs.List.{filter_map, flat_map, range_with_len}
 use Rattle.index_block.specs.declared.geometry.Place.{Place}
@@ -11,33 +11,20 @@ use Rattle.label_area.specs.declared.blocks.Current.{Current}
 use Rattle.label_area.specs.LoadedAreas.{LoadedArea}
 use Rattle.module_labels.specs.declared.kind.AreaKind.TheVariants.{Ready}
 use Rattle.module_labels.specs.Labels.{Module}
-use Rattle.uuid.specs.Text.{hyphenated_text, lower}
+use Rattle.report_json.specs.Numbers.{address_text, handle_text, uuid_text}
 
--- a number as `0x` and lower case hexadecimal digits, padded with zeros to a width: what `0x{:0width x}` prints
-abbrev pub hexadecimal : ℕ → ℕ → List ℕ
-hexadecimal width n = codes "0x" ++ padded_integral (format_spec 32 0 4 width (2 ^ 64 - 1)) false [] (digits 16 false n)
-
--- which label a line is of
-abbrev pub identity_part : Label → List ℕ
-identity_part label = codes "  slot=" ++ decimal label.slot
-    ++ codes " uuid=" ++ hyphenated_text lower label.uuid
+-- the line of a live label: which it is, what it is in its set, and which part of the module it names
+abbrev pub label_line : Label → List ℕ
+label_line label = codes "  slot=" ++ decimal label.slot
+    ++ codes " uuid=" ++ uuid_text label.uuid
     ++ codes " name=" ++ printed_name label.name
-
--- what it is in its set
-abbrev pub set_part : Label → List ℕ
-set_part label = codes " flags=" ++ hexadecimal 8 label.flags
+    ++ codes " flags=" ++ handle_text label.flags
     ++ codes " nlabel=" ++ decimal label.nlabel
     ++ codes " position=" ++ decimal label.position
-
--- and which part of the module it names
-abbrev pub extent_part : Label → List ℕ
-extent_part label = codes " cookie=" ++ hexadecimal 16 label.cookie
-    ++ codes " dpa=" ++ hexadecimal 16 label.dpa
+    ++ codes " cookie=" ++ address_text label.cookie
+    ++ codes " dpa=" ++ address_text label.dpa
     ++ codes " size=" ++ decimal label.raw_size
     ++ codes "\n"
-
-abbrev pub label_line : Label → List ℕ
-label_line label = identity_part label ++ set_part label ++ extent_part label
 
 -- 0 or 1
 abbrev pub place_number : Place → ℕ

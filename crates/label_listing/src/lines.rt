@@ -1,92 +1,67 @@
 //! The listing of an area.
 
-ghost use Rattle.std.specs.Prelude.{◌≡◌, ◌++◌, ◌≤◌, IfOk, OnOk, string_bytes};
-ghost use Rattle.label_codec.specs.Names.{printed_name};
-ghost use Rattle.label_listing.specs.Listing.{extent_part, identity_part, label_line, last_line, loaded_listing};
-ghost use Rattle.label_listing.specs.Listing.{place_number, set_part};
+ghost use Rattle.std.specs.Prelude.{◌≡◌, IfOk};
+ghost use Rattle.label_listing.specs.Listing.{label_line, last_line, loaded_listing, place_number};
 
 use index_block::Place;
 use label_area::Area;
-use label_codec::{Label, name_text};
+use label_codec::Label;
+use report_json::ShortText;
 use std::alloc::{AllocError, Global};
-use std::fmt::Write;
-use uuid::Uuid;
 
 /// A line for each live label, in the order of their slots, and a last line.
-pub fn listing(alloc: Global, area: &Area) -> Result<String, AllocError>
-    ensures { IfOk result (λ text. string_bytes text ≡ loaded_listing area.now) }
+pub fn listing(alloc: Global, area: &Area) -> Result<Vec<u8>, AllocError>
+    ensures { IfOk result (λ text. text.items ≡ loaded_listing area.now) }
 {
-    let mut text = String::new(alloc);
+    let mut text = Vec::new(alloc);
     let mut count = 0;
     for slot in area.labels() {
         if let Some(label) = slot {
-            push_label(alloc, &mut text, label)?;
+            text.extend_from_slice(label_line(label).as_bytes())?;
             count += 1;
         }
     }
-    push_last(&mut text, count, area)?;
+    text.extend_from_slice(last_line(count, area).as_bytes())?;
     Ok(text)
 }
 
-fn push_label(alloc: Global, text: &mut String, label: &Label) -> Result<(), AllocError>
-    ensures { OnOk result (string_bytes text.new ≡ string_bytes text.old ++ label_line label.now) }
+/// The line of a live label.
+fn label_line(label: &Label) -> ShortText
+    ensures { result ≡ label_line label.now }
 {
-    let name = printed(alloc, label)?;
-    push_identity(text, label, &name)?;
-    push_set(text, label)?;
-    push_extent(text, label)
+    let mut text = ShortText::new();
+    text.push_decimal("  slot=", u64::from(label.slot));
+    text.push_uuid(" uuid=", &label.uuid);
+    text.push_name(" name=", &label.name);
+    text.push_handle(" flags=", label.flags);
+    text.push_decimal(" nlabel=", u64::from(label.nlabel));
+    text.push_decimal(" position=", u64::from(label.position));
+    text.push_address(" cookie=", label.cookie);
+    text.push_address(" dpa=", label.dpa);
+    text.push_decimal(" size=", label.raw_size);
+    text.push_str("\n");
+    text
 }
 
-/// The name of a label as it is printed.
-fn printed(alloc: Global, label: &Label) -> Result<String, AllocError>
-    ensures { IfOk result (λ name. string_bytes name ≡ printed_name label.now.name) }
+/// The last line, which tells how many labels there are.
+fn last_line(count: usize, area: &Area) -> ShortText
+    ensures { result ≡ last_line count (record {
+      geometry = area.now.geometry;
+      place = area.now.place;
+      seq = area.now.seq;
+    }) }
 {
-    match String::from_utf8(name_text(alloc, &label.name)?) {
-        Ok(name) => Ok(name),
-        // A printed name is ASCII.
-        Err(_) => unreachable!(),
-    }
-}
-
-fn push_identity(text: &mut String, label: &Label, name: &str) -> Result<(), AllocError>
-    requires { name.now ≡ printed_name label.now.name }
-    ensures { OnOk result (string_bytes text.new ≡ string_bytes text.old ++ identity_part label.now) }
-{
-    write!(text, "  slot={}", label.slot)?;
-    write!(text, " uuid={}", Uuid::from_bytes(label.uuid).hyphenated())?;
-    write!(text, " name={name}")
-}
-
-fn push_set(text: &mut String, label: &Label) -> Result<(), AllocError>
-    ensures { OnOk result (string_bytes text.new ≡ string_bytes text.old ++ set_part label.now) }
-{
-    write!(text, " flags=0x{:08x}", label.flags)?;
-    write!(text, " nlabel={}", label.nlabel)?;
-    write!(text, " position={}", label.position)
-}
-
-fn push_extent(text: &mut String, label: &Label) -> Result<(), AllocError>
-    ensures { OnOk result (string_bytes text.new ≡ string_bytes text.old ++ extent_part label.now) }
-{
-    write!(text, " cookie=0x{:016x}", label.cookie)?;
-    write!(text, " dpa=0x{:016x}", label.dpa)?;
-    writeln!(text, " size={}", label.raw_size)
-}
-
-fn push_last(text: &mut String, count: usize, area: &Area) -> Result<(), AllocError>
-    ensures { OnOk result (string_bytes text.new
-        ≡ string_bytes text.old ++ last_line count (record {
-          geometry = area.now.geometry;
-          place = area.now.place;
-          seq = area.now.seq;
-        })) }
-{
-    write!(text, "ok labels={count} slots={}", area.slots())?;
-    writeln!(text, " seq={} place={}", area.seq(), number(area.place()))
+    let mut text = ShortText::new();
+    text.push_decimal("ok labels=", count as u64);
+    text.push_decimal(" slots=", u64::from(area.slots()));
+    text.push_decimal(" seq=", u64::from(area.seq()));
+    text.push_decimal(" place=", number(area.place()));
+    text.push_str("\n");
+    text
 }
 
 /// How a place is shown.
-fn number(place: Place) -> u32
+fn number(place: Place) -> u64
     ensures { result ≡ place_number place }
 {
     match place {

@@ -20,3 +20,4 @@ pub mod ChangedSpaces
 pub mod ChangeEnds
 pub mod ReleaseEnds
 pub mod ChangePasses
+pub mod OneTranslation

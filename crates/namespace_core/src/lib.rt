@@ -11,6 +11,7 @@ mod refusals;
 mod release_refusals;
 mod releasing;
 mod renaming;
+mod translation_laws;
 mod translations;
 
 pub use creation::{ChangeFault, create};
@@ -18,4 +19,5 @@ pub use destruction::destroy;
 pub use lists::{Query, show};
 pub use releasing::release_held;
 pub use renaming::rename;
+pub use translation_laws::one_translation;
 pub use translations::{to_module, to_runs, to_spa};

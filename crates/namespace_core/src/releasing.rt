@@ -44,7 +44,7 @@ pub fn release_held<R: Rig>(
         Err(AllocError) => return Err(ChangeFault::Memory),
     }
     match sets.release(rig, platform, dimm, uuid) {
-        Ok(labels) => Ok(Reply::Released { labels }),
+        Ok(count) => Ok(Reply::Released { count }),
         Err(failed) => Err(ChangeFault::Area { dimm: failed.dimm }),
     }
 }

@@ -1,12 +1,13 @@
 -- How lines on a session that has just started end, with the line of the fault that ended them.
-use Rattle.std.proofs.Common.{◌≡◌, ◌⊎◌, ℕ, ◌<◌, Bool, true, false, List, ◌++◌, length, take, Option, Result, Ok, Err, refl, sym, ap, ◌∙◌, subst, inl, inr, ⊎_elim}
+use Rattle.std.proofs.Common.{◌≡◌, ◌⊎◌, ℕ, suc, ◌<◌, Bool, true, false, List, ◌++◌, length, take, Option, Result, Ok, Err, refl, sym, ap, ◌∙◌, subst, inl, inr, ⊎_elim}
 use Rattle.std.specs.FinMap.{get}
 use Rattle.rig_trait.specs.declared.shown.Shown.{Ghosts}
 use Rattle.rig_trait.specs.Areas.{Areas}
 use Rattle.rig_trait.specs.Faults.{counted}
 use Rattle.rig_trait.specs.Frames.{FailsAt, GoesOn, IsTold, LeavesOnly, Reads}
 use Rattle.rig_trait.specs.Records.{CrashRecord, IsSaying}
-use Rattle.rig_trait.proofs.Moments.{and_a_call, weakened}
+use Rattle.rig_trait.proofs.Frames.{reading}
+use Rattle.rig_trait.proofs.Moments.{and_a_call, joined, weakened}
 use Rattle.label_area.proofs.FairRecords.{IsFair-same}
 use Rattle.region_map.specs.declared.platform.Platform.{Platform}
 use Rattle.sessions.specs.Commands.{has_module}
@@ -17,7 +18,8 @@ use Rattle.command_runs.specs.declared.faults.LineFault.{LineFault}
 use Rattle.command_runs.specs.declared.faults.LineFault.TheVariants as fault
 use Rattle.command_runs.specs.Areas.{KeepsBytes, LeaveLabels, LeavesBytes, WritesNothing, initialised_by}
 use Rattle.command_runs.specs.Ends as runs
-use Rattle.command_runs.specs.Ends.{IsCutShort, IsFinished, IsStopped, IsUnchanged, run_of}
+use Rattle.command_runs.specs.LastWrites.{IsPastChanges, WritesNoMore}
+use Rattle.command_runs.specs.Ends.{EndsWrites, IsCutShort, IsFinished, IsStopped, IsUnchanged, run_of}
 use Rattle.command_runs.specs.Faults.{HasAreaFaults, HasCause, IsAmong, fails_at, is_say}
 use Rattle.command_runs.specs.Runs.{IsBehind, Progress, Run}
 use Rattle.command_runs.specs.Stops.{HasNextTable, HasTable, IsBetween, IsLeft}
@@ -28,7 +30,8 @@ use Rattle.nd_top.specs.Saying.{Says}
 use Rattle.nd_top.specs.Statuses.{fault_status, refused_status}
 use Rattle.nd_top.specs.Stops.{IsLeftOf, SaysFault}
 use Rattle.nd_top.specs.Texts.{fault_line}
-use Rattle.nd_top.proofs.Known.{behind-known, next-known, next_table-known}
+use Rattle.nd_top.proofs.Known.{behind-known, next-known, next_table-known, past-known, past-line}
+use Rattle.nd_top.proofs.Past.{never-past}
 use Rattle.nd_top.proofs.Started.{bytes_left_run, bytes_run, current_state, faults_behind, faults_said, kept_run, left_run, slots_are, start_is}
 
 -- what is said at last changes nothing of what was written
@@ -59,6 +62,17 @@ module _ {R : Type 0} (m : Ghosts R) (old start mid : R) (session after : Stored
   said_behind : (progress : Progress) → (known → m.said mid ≡ m.said start ++ progress.said) → told → m.said mid ≡ m.said old ++ progress.said
   said_behind progress said_is tells = said_is (current tells) ∙ ap (λ (said : List ℕ). said ++ progress.said) read.said
 
+  -- nothing more is written from when on the last reply to a change is begun
+  past_run : (k : ℕ) (progress : Progress) (behind : IsBehind known run k progress) (seen : IsBehind told run k progress)
+      → ((c : CrashRecord) → IsPastChanges told run k progress seen (m.said old) c → IsPastChanges known run k progress behind (m.said old) c)
+      → (known → WritesNoMore m start mid (IsPastChanges known run k progress behind (m.said start))) → (progress.changed ≡ false → WritesNothing m start mid)
+      → told → WritesNoMore m old mid (IsPastChanges told run k progress seen (m.said old))
+  past_run k progress behind seen converts no_more kept tells =
+      let P = λ (c : CrashRecord). IsPastChanges told run k progress seen (m.said old) c → c.areas ≡ m.areas mid in
+      joined (reading P (λ c same said_is past. same ∙ sym read.areas ∙ sym (kept (never-past told run k progress seen (m.said old) c said_is past)).areas) read)
+      (weakened (λ c. IsPastChanges known run k progress behind (m.said start) c → c.areas ≡ m.areas mid) P
+      (λ c has past. has (subst (λ (said : List ℕ). IsPastChanges known run k progress behind said c) (sym read.said) (converts c past))) (no_more (current tells)))
+
   -- all lines are done
   done : (refused : Bool) (status : ℕ) → IsFinished m known run start mid after refused → m.say_faults mid ≡ m.say_faults start → status ≡ refused_status refused → IsDone m run old mid status
   done refused status finished say_faults status_is = record {
@@ -68,13 +82,16 @@ module _ {R : Type 0} (m : Ghosts R) (old start mid : R) (session after : Stored
     said_is = said_behind finished.progress finished.through.said_is;
     areas_are = λ tells. current_state m mid after session.platform finished.progress.state platform_is finished.through.state_is (finished.through.current (current tells));
     kept = λ none. kept_run m old start session seed lines read current mid (finished.kept none);
+    no_more = past_run (length lines) finished.progress finished.behind (behind-known known told current run (length lines) finished.progress finished.behind)
+        (past-known known told current run (length lines) finished.progress finished.behind (m.said old)) finished.no_more finished.kept;
     say_faults = say_faults ∙ read.say_faults;
   }
 
   -- a reply was not said whole
-  cut_off : (k : ℕ) (progress : Progress) (status : ℕ) → k < length lines → IsBehind known run k progress → runs.IsCutOff m known run k progress start mid after
+  cut_off : (k : ℕ) (progress : Progress) (status : ℕ) → k < length lines → (behind : IsBehind known run k progress) (cut : runs.IsCutOff m known run k progress start mid after)
+      → EndsWrites m known run k progress behind start mid after fault.Say cut
       → m.say_faults mid ≡ counted true (m.say_faults start) → status ≡ 7 → IsCutOff m run old mid status
-  cut_off k progress status more behind cut say_faults status_is = record {
+  cut_off k progress status more behind cut no_more say_faults status_is = record {
     done = k;
     more = more;
     progress = progress;
@@ -88,6 +105,11 @@ module _ {R : Type 0} (m : Ghosts R) (old start mid : R) (session after : Stored
     said_is = λ tells. let said = cut.said_is (current tells) in (said.0, said.1 ∙ ap (λ (before : List ℕ). before ++ progress.said ++ take said.0 cut.text) read.said);
     areas_are = λ tells. current_state m mid after session.platform cut.next.state platform_is cut.state_is (cut.current (current tells));
     kept = λ none. kept_run m old start session seed lines read current mid (cut.kept none);
+    no_more = past_run (suc k) cut.next (record { before = progress; was = behind; one = cut.does })
+        (record { before = progress; was = behind-known known told current run k progress behind; one = next-known known told current run k progress cut.next cut.does })
+        (λ c. past-line known told current run k progress cut.next cut.does (m.said old ++ progress.said) c
+        (IsPastChanges told run k progress (behind-known known told current run k progress behind) (m.said old) c) (IsPastChanges known run k progress behind (m.said old) c)
+        (past-known known told current run k progress behind (m.said old) c)) no_more cut.kept;
     say_faults = say_faults ∙ ap (counted true) read.say_faults;
   }
 
@@ -167,7 +189,7 @@ module _ {R : Type 0} (m : Ghosts R) (old start mid : R) (session after : Stored
       (are_done (Ok refused) status (done refused status ends cause.says end.1) (faults_behind m old start mid (Ok refused) fails cause.areas) among (bytes_run m old start session seed lines read current mid (Ok refused) bytes))
   are_run new (Err fault.Say) status ends cause among bytes end =
       subst (λ (r : R). AreRun m run old r status) (sym end.0)
-      (are_done (Err fault.Say) status (cut_off ends.done ends.progress status ends.more ends.behind ends.ended cause.says end.1)
+      (are_done (Err fault.Say) status (cut_off ends.done ends.progress status ends.more ends.behind ends.ended ends.no_more cause.says end.1)
       (faults_behind m old start mid (Err fault.Say) fails cause.areas) among (bytes_run m old start session seed lines read current mid (Err fault.Say) bytes))
   are_run new (Err (fault.Area dimm)) status ends cause among bytes end =
       are_ended new (Area dimm) ends.done ends.progress status ends.ended ends.behind end (Err (fault.Area dimm))
@@ -181,5 +203,12 @@ module _ {R : Type 0} (m : Ghosts R) (old start mid : R) (session after : Stored
         areas_are = λ tells. subst (λ (areas : Areas). StandFor session.platform areas ends.progress.state) (sym end.tells.says_only.areas)
             (current_state m mid after session.platform ends.progress.state platform_is unchanged.through.state_is (unchanged.through.current (current tells)));
         kept = λ none. kept_said m old mid new (fault_line Memory) 6 status (kept_run m old start session seed lines read current mid (unchanged.kept none)) end;
+        no_more = λ tells.
+            let seen = behind-known known told current run ends.done ends.progress ends.behind in
+            let past = IsPastChanges told run ends.done ends.progress seen (m.said old) in
+            and_a_call (λ c. past c → c.areas ≡ m.areas new) (IsSaying (m.may_leave mid) (m.said mid) (fault_line Memory))
+            (weakened (λ c. past c → c.areas ≡ m.areas mid) (λ c. past c → c.areas ≡ m.areas new) (λ c has is. has is ∙ sym end.tells.says_only.areas)
+            (past_run ends.done ends.progress ends.behind seen (past-known known told current run ends.done ends.progress ends.behind (m.said old)) ends.no_more unchanged.kept tells))
+            end.tells.stops (λ c saying is. saying.areas_are ∙ (m.now_is mid saying.from saying.was).0 ∙ sym end.tells.says_only.areas);
       })
       (faults_behind m old start mid (Err fault.Memory) fails cause.areas) among (bytes_run m old start session seed lines read current mid (Err fault.Memory) bytes)

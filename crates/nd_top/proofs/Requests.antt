@@ -33,9 +33,9 @@ unasked m n i seed (Some (LabelsOf dimm)) old new nfit input status some says = 
   says = says;
 }
 unasked m n i seed (Some (DoLine line)) old new nfit input status some says =
-    ends.line_without (record { fault = Memory; cause = tt; draws = unread n nfit; says = says })
+    ends.line_without (record { fault = Memory; cause = tt; ended = λ told. tt; draws = unread n nfit; says = says })
 unasked m n i seed (Some RunInput) old new nfit input status some says =
-    ends.input_without (record { fault = Memory; cause = tt; draws = unread n nfit; says = says }) refl
+    ends.input_without (record { fault = Memory; cause = tt; ended = λ told. tt; draws = unread n nfit; says = says }) refl
 
 -- why the lines cannot be had
 pub input_cause : {I : Type 0} (i : sources.Ghosts I) (input : I) (fault : ReadFault) → (TellsLeft i input → ReadsAll (i.left input) (Err fault)) → IsInputFault i input fault

@@ -15,7 +15,7 @@ use Rattle.nd_top.specs.Faults.{fault_of, is_read, is_source}
 use Rattle.nd_top.specs.Labels.{ListsLabels}
 use Rattle.nd_top.specs.Runs.{EndsOn}
 use Rattle.nd_top.specs.Saying.{Says}
-use Rattle.nd_top.specs.Sources.{IsAccepted, IsInputFault, IsNfitFault, IsPlatformIn}
+use Rattle.nd_top.specs.Sources.{IsAccepted, IsEndedAt, IsInputFault, IsNfitFault, IsPlatformIn}
 use Rattle.nd_top.specs.Statuses.{fault_status}
 use Rattle.nd_top.specs.Texts.{fault_line}
 use Rattle.nd_top.specs.Words.{Asked, LabelsOf, DoLine, RunInput}
@@ -25,13 +25,16 @@ pub record HasNoPlatform {R N : Type 0} (m : rigs.Ghosts R) (n : sources.Ghosts 
     (status : ℕ) : Type 0 where
   pub fault : Fault
   pub cause : IsNfitFault n nfit_old fault
+  -- it was read to its end where its bytes are none
+  pub ended : TellsLeft n nfit_old → IsEndedAt fault (n.left nfit_new)
   pub draws : Draws n nfit_old nfit_new (is_source fault)
   pub says : Says m old new (fault_line fault) (fault_status fault) status
 
--- The NFIT was read whole, and the platform is its.
+-- The NFIT was read to its end, and the platform is its.
 pub record HasPlatform {N : Type 0} (n : sources.Ghosts N) (nfit_old nfit_new : N) (platform : Platform) : Type 0 where
   pub sound : IsSound platform
   pub is_in : TellsLeft n nfit_old → IsPlatformIn (n.left nfit_old) platform
+  pub ended : TellsLeft n nfit_old → n.left nfit_new ≡ []
   pub draws : Draws n nfit_old nfit_new false
 
 -- The lines cannot be had, so no area is asked for anything.

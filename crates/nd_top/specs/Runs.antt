@@ -16,6 +16,7 @@ use Rattle.command_runs.specs.declared.faults.LineFault.{LineFault}
 use Rattle.command_runs.specs.declared.faults.LineFault.TheVariants.{Area, Memory, Say}
 use Rattle.command_runs.specs.Areas.{KeepsBytes, LeaveLabels, LeavesBytes, WritesNothing}
 use Rattle.command_runs.specs.Faults.{HasAreaFaults, IsAmong, fails_at}
+use Rattle.command_runs.specs.LastWrites.{IsPastChanges, IsPastLine, WritesNoMore}
 use Rattle.command_runs.specs.Runs.{DoesNext, IsBehind, Progress, Run}
 use Rattle.nd_top.specs.declared.faults.Fault.{Fault}
 use Rattle.nd_top.specs.declared.faults.Fault.TheVariants as faults
@@ -38,6 +39,9 @@ pub record IsDone {R : Type 0} (m : Ghosts R) (run : Run) (old new : R) (status 
   pub areas_are : IsTold m old → StandFor run.platform (m.areas new) progress.state
   -- where no reply is that to a change nothing is written
   pub kept : progress.changed ≡ false → WritesNothing m old new
+  -- and nothing from when on the last such reply is begun
+  pub no_more : IsTold m old
+      → WritesNoMore m old new (IsPastChanges (IsTold m old) run (length run.lines) progress behind (m.said old))
   pub say_faults : m.say_faults new ≡ m.say_faults old
 
 -- A reply could not be said whole: its line is done, and a front of it is said behind the replies to the lines before.
@@ -56,6 +60,8 @@ pub record IsCutOff {R : Type 0} (m : Ghosts R) (run : Run) (old new : R) (statu
   pub said_is : IsTold m old → (count : ℕ) × (m.said new ≡ m.said old ++ progress.said ++ take count text)
   pub areas_are : IsTold m old → StandFor run.platform (m.areas new) next.state
   pub kept : next.changed ≡ false → WritesNothing m old new
+  pub no_more : IsTold m old → WritesNoMore m old new (λ c. IsPastLine does.reply (m.said old ++ progress.said) c
+      (IsPastChanges (IsTold m old) run done progress behind (m.said old) c))
   pub say_faults : m.say_faults new ≡ counted true (m.say_faults old)
 
 -- A fault ended the run behind the replies to the first lines, and its line is said, or a front of it.
@@ -75,6 +81,9 @@ pub record WantsMemory {R : Type 0} (m : Ghosts R) (run : Run) (old new : R) (st
   pub ended : IsEnded m run faults.Memory old new status
   pub areas_are : IsTold m old → StandFor run.platform (m.areas new) ended.progress.state
   pub kept : ended.progress.changed ≡ false → WritesNothing m old new
+  -- nor was anything written from when on the last reply to a change is begun
+  pub no_more : IsTold m old → WritesNoMore m old new
+      (IsPastChanges (IsTold m old) run ended.done ended.progress ended.behind (m.said old))
 
 -- Where the rig failed at an area, the areas are what a stop leaves.
 abbrev pub EndsBy : {R : Type 0} → Ghosts R → Run → R → R → ℕ → Result Bool LineFault → Type 0

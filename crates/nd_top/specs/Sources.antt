@@ -1,5 +1,5 @@
 -- What is read from sources: the platform of an NFIT, and the bytes of the input.
-use Rattle.std.specs.Prelude.{◌≡◌, ◌<◌, ◌≤◌, IsOk, List, ℕ, Result, Ok, Err, Vec, length}
+use Rattle.std.specs.Prelude.{◌≡◌, ◌<◌, ◌≤◌, IsOk, List, [], ℕ, Result, Ok, Err, Vec, length}
 use Rattle.std.specs.declared.alloc.Global.{Global}
 use Rattle.nfit_tables.specs.declared.pieces.Nfit as tables
 use Rattle.nfit_tables.specs.Limits.{most_bytes}
@@ -46,6 +46,20 @@ IsNfitFault n source (Limit sources.Input) = ⊥
 IsNfitFault n source (Source sources.Input) = ⊥
 IsNfitFault n source (Area dimm) = ⊥
 IsNfitFault n source Words = ⊥
+
+-- Bytes that are no NFIT were read to their end, so none are left.
+abbrev pub IsEndedAt : Fault → List ℕ → Type 0
+IsEndedAt (Nfit fault) left = left ≡ []
+IsEndedAt (Limit source) left = Unit {0}
+IsEndedAt (Source source) left = Unit {0}
+IsEndedAt (Area dimm) left = Unit {0}
+IsEndedAt Words left = Unit {0}
+IsEndedAt Memory left = Unit {0}
+
+-- so were those that are one
+abbrev pub EndsNfit : {T : Type 0} → Result T Fault → List ℕ → Type 0
+EndsNfit (Ok value) left = left ≡ []
+EndsNfit (Err fault) left = IsEndedAt fault left
 
 -- why the lines cannot be had
 abbrev pub IsInputFault : {N : Type 0} → Ghosts N → N → ReadFault → Type 0

@@ -24,7 +24,7 @@ pub fn say_labels<R: Rig>(alloc: Global, rig: &mut R, dimm: u32) -> u8
 {
     match Area::load(alloc, rig, dimm) {
         Ok(area) => match listing(alloc, &area) {
-            Ok(text) => say(rig, text.as_bytes(), Status::Ok),
+            Ok(text) => say(rig, &text, Status::Ok),
             Err(_) => say_fault(rig, Fault::Memory),
         },
         Err(fault) => say_unlisted(rig, dimm, fault),

@@ -6,7 +6,7 @@ ghost use Rattle.nfit_tables.specs.Proper.{IsProper};
 ghost use Rattle.region_map.specs.Platforms.{IsSound};
 ghost use Rattle.rig_trait.specs.Sources.{Draws, TellsLeft};
 ghost use Rattle.nd_top.specs.Faults.{is_failed, nfit_failed};
-ghost use Rattle.nd_top.specs.Sources.{IsNfitFault, IsPlatformIn, IsTableIn, ReadsAll};
+ghost use Rattle.nd_top.specs.Sources.{EndsNfit, IsNfitFault, IsPlatformIn, IsTableIn, ReadsAll};
 
 use crate::faults::{Fault, ReadFault, SourceName};
 use nfit_tables::{MOST_BYTES, Nfit, ReadNfit, read_nfit};
@@ -25,6 +25,7 @@ pub fn read_platform<N: Source>(alloc: Global, source: &mut N) -> Result<Platfor
     ensures platform { TellsLeft N.Source source.old → IfOk result (IsPlatformIn (N.left source.old)) }
     ensures sound { IfOk result IsSound }
     ensures fault { IfErr result (IsNfitFault N.Source source.old) }
+    ensures ended { TellsLeft N.Source source.old → EndsNfit result (N.left source.new) }
     ensures draws { Draws N.Source source.old source.new (nfit_failed result) }
 {
     let table = read_table(alloc, source)?;
@@ -36,6 +37,7 @@ fn read_table<N: Source>(alloc: Global, source: &mut N) -> Result<Nfit, Fault>
     ensures table { TellsLeft N.Source source.old → IfOk result (IsTableIn (N.left source.old)) }
     ensures proper { IfOk result IsProper }
     ensures fault { IfErr result (IsNfitFault N.Source source.old) }
+    ensures ended { TellsLeft N.Source source.old → EndsNfit result (N.left source.new) }
     ensures draws { Draws N.Source source.old source.new (nfit_failed result) }
 {
     let bytes = match read_all(alloc, source) {

@@ -88,7 +88,7 @@ pub fn line_of(reply: &Reply) -> Option<ShortText>
         } => Some(created_line(uuid, *region, *offset, *length, *size, *spare)),
         Reply::Destroyed { uuid } => Some(destroyed_line(uuid)),
         Reply::Renamed { uuid, name } => Some(renamed_line(uuid, name)),
-        Reply::Released { labels } => Some(released_line(*labels)),
+        Reply::Released { count } => Some(released_line(*count)),
         Reply::Module { dimm, dpa } => Some(module_line(*dimm, *dpa)),
         Reply::Spa { spa } => Some(spa_line(*spa)),
         Reply::Refused(refusal) => Some(refusal_line(*refusal)),

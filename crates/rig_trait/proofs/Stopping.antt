@@ -3,72 +3,78 @@ use Rattle.std.proofs.Common.{◌≡◌, inl, inr, ℕ, Bool, true, false, List,
 use Rattle.std.proofs.lemmas.Bool.Decides.{Decides-eqb}
 use Rattle.std.proofs.lemmas.List.{take_at}
 use Rattle.std.proofs.lemmas.Slice.Eq.{starts_is}
-use Rattle.std.specs.Prelude.{IfSome, nat_eq}
+use Rattle.std.specs.Prelude.{IfSome, nat_eq, unwrap_or}
 use Rattle.std.specs.List.{AllZip, starts_with}
-use Rattle.std.proofs.Common.{eq-eqb}
+use Rattle.std.proofs.Common.{eq-eqb, add-one, ◌+◌}
 use Rattle.std.specs.declared.alloc.Global.{Global}
-use Rattle.rig_trait.specs.Areas.{written}
-use Rattle.rig_trait.specs.Crashed.{first_stopped, stopped}
-use Rattle.rig_trait.specs.Kept.{KeptCall, kept_write, kept_say, kept_from, number_of}
+use Rattle.byte_ranges.specs.Ranges.{range}
+use Rattle.byte_ranges.proofs.Patched.{range-patched_in}
+use Rattle.rig_trait.specs.Areas.{area, bytes_in, written}
+use Rattle.rig_trait.specs.Crashed.{first_stopped, first_torn, moment_of, stopped}
+use Rattle.rig_trait.specs.Kept.{KeptCall, kept_write, kept_say, kept_from, number_of, AllLieIn, LiesIn}
 use Rattle.rig_trait.specs.Memory.{bytes_of}
-use Rattle.rig_trait.specs.Records.{CrashRecord, torn_write}
-use Rattle.rig_trait.specs.Undone.{LeftBy, LeftWithin, before, whole}
+use Rattle.rig_trait.specs.Records.{CrashRecord, TornWrite}
+use Rattle.rig_trait.specs.Undone.{LeftBy, before, whole}
+use Rattle.rig_trait.proofs.Lying.{AllLieIn-written}
+use Rattle.rig_trait.proofs.WrittenAreas.{get-written}
 
--- a record of these calls that has these areas and these bytes said
-pub record HasRecord (calls : List KeptCall) (now given : CrashRecord) : Type 0 where
-  pub left : CrashRecord
-  pub by : LeftBy calls now left
-  pub areas_are : given.areas ≡ left.areas
-  pub said_is : given.said ≡ left.said
+-- the calls from one on may be stopped with the calls before it undone, and still lie inside the areas
+lies_before : (calls : List KeptCall) (now : CrashRecord) (xs : List KeptCall) → AllLieIn now.areas calls → AllLieIn now.areas xs → AllLieIn (before calls now).areas xs
+lies_before [] now xs all lie = lie
+lies_before (kept_write call dimm at old new ∷ later) now xs all lie =
+    let own = lies_before later now (kept_write call dimm at old new ∷ []) all.1 (all.0, tt) in
+    AllLieIn-written (before later now).areas dimm at old (rw own.0.1 own.0.0) xs (lies_before later now xs all.1 lie)
+lies_before (kept_say call said text ∷ later) now xs all lie = lies_before later now xs all.1 lie
 
-record IsWithinCall (call : KeptCall) (was given : CrashRecord) : Type 0 where
-  left : CrashRecord
-  within : LeftWithin call was left
-  areas_are : given.areas ≡ left.areas
-  said_is : given.said ≡ left.said
+-- the record of a rig that stands so, with a torn write
+abbrev recorded : CrashRecord → Option TornWrite → CrashRecord
+recorded given torn = record { areas = given.areas; said = given.said; torn = torn }
 
-stopped_if : (b : Bool) (call : KeptCall) (was given : CrashRecord) → (b ≡ true → IsWithinCall call was given) → IfSome (if b then Some given else None) (IsWithinCall call was)
-stopped_if true call was given here = here refl
-stopped_if false call was given here = tt
+-- the old bytes stand where a write is undone
+old_bytes : (now : CrashRecord) (call dimm at : ℕ) (old new : List ℕ) → LiesIn now.areas (kept_write call dimm at old new) → bytes_in (written now.areas dimm at old) dimm at (length new) ≡ old
+old_bytes now call dimm at old new lies =
+    rw (← lies.1) (
+    ap (λ (o : Option (List ℕ)). range (unwrap_or o []) at (length old)) (get-written now.areas dimm at old)
+    ∙ range-patched_in (area now.areas dimm) old at (rw lies.1 lies.0.fits)
+    )
 
-stopped_within : (call : KeptCall) (was : CrashRecord) (torn : List ℕ) → IfSome (stopped call was torn) (IsWithinCall call was)
-stopped_within (kept_write call dimm at old new) was torn =
-    stopped_if (nat_eq (length torn) (length new)) (kept_write call dimm at old new) was (whole (written was.areas dimm at torn) was.said)
-    (λ same. record {
-      left = record { areas = written was.areas dimm at torn; said = was.said; torn = Some (torn_write was.areas dimm at new) };
-      within = record { garbage = torn; same_length = (Decides-eqb (length torn) (length new)).0 same; areas_are = refl; said_is = refl; torn_is = refl };
+stopped_if : (b : Bool) (given : CrashRecord) (P : CrashRecord → Type 0) → (b ≡ true → P given) → IfSome (if b then Some given else None) P
+stopped_if true given P here = here refl
+stopped_if false given P here = tt
+
+stopped_within : (call : KeptCall) (later : List KeptCall) (now : CrashRecord) (torn : List ℕ) → AllLieIn now.areas (call ∷ later)
+    → IfSome (stopped call (before (call ∷ later) now) torn) (λ given. LeftBy (call ∷ later) now (recorded given (first_torn (call ∷ later))))
+stopped_within (kept_write call dimm at old new) later now torn all =
+    let was : CrashRecord = before later now in
+    let lies = lies_before later now (kept_write call dimm at old new ∷ []) all.1 (all.0, tt) in
+    stopped_if (nat_eq (length torn) (length new)) _ (λ given. LeftBy (kept_write call dimm at old new ∷ later) now (recorded given (first_torn (kept_write call dimm at old new ∷ later))))
+    (λ same. inl (inr (record {
+      garbage = torn;
+      same_length = (Decides-eqb (length torn) (length new)).0 same;
       areas_are = refl;
       said_is = refl;
-    })
-stopped_within (kept_say call said text) was torn =
-    stopped_if (starts_with nat_eq text torn) (kept_say call said text) was (whole was.areas (was.said ++ torn))
+      torn_is = ap (λ (bytes : List ℕ). Some (record { dimm = dimm; at = at; old = bytes; new = new })) (sym (old_bytes was call dimm at old new lies.0));
+    })))
+stopped_within (kept_say call said text) later now torn all =
+    stopped_if (starts_with nat_eq text torn) _ (λ given. LeftBy (kept_say call said text ∷ later) now (recorded given (first_torn (kept_say call said text ∷ later))))
     (λ starts.
+    let was : CrashRecord = before (kept_say call said text ∷ later) now in
     let split : text ≡ torn ++ drop (length torn) text = (starts_is Decides-eqb text torn (starts_with nat_eq text torn) refl).0 starts in
     let front : take (length torn) text ≡ torn = ap (take (length torn)) split ∙ take_at torn (drop (length torn) text) (length torn) refl in
-    record {
-      left = whole was.areas (was.said ++ torn);
-      within = (length torn, ap (λ (t : List ℕ). whole was.areas (was.said ++ t)) (sym front));
-      areas_are = refl;
-      said_is = refl;
-    })
-
-first_recorded : (call : KeptCall) (later : List KeptCall) (now : CrashRecord) (o : Option CrashRecord) → IfSome o (IsWithinCall call (before (call ∷ later) now)) → IfSome o (HasRecord (call ∷ later) now)
-first_recorded call later now None here = tt
-first_recorded call later now (Some given) here = record { left = here.left; by = inl (inr here.within); areas_are = here.areas_are; said_is = here.said_is }
-
-earlier_too : (call : KeptCall) (later : List KeptCall) (now : CrashRecord) (o : Option CrashRecord) → IfSome o (HasRecord later now) → IfSome o (HasRecord (call ∷ later) now)
-earlier_too call later now None here = tt
-earlier_too call later now (Some given) here = record { left = here.left; by = inr here.by; areas_are = here.areas_are; said_is = here.said_is }
+    inl (inr (length torn, ap (λ (t : List ℕ). whole was.areas (was.said ++ t)) (sym front))))
 
 -- the first call with a number, stopped
-pub crash_recorded : (number : ℕ) (calls : List KeptCall) (now : CrashRecord) (torn : List ℕ) → IfSome (first_stopped (kept_from number calls) now torn) (HasRecord calls now)
-crash_recorded number [] now torn = tt
-crash_recorded number (call ∷ later) now torn = cases (nat_eq (number_of call) number) (first_recorded call later now _ (stopped_within call (before (call ∷ later) now) torn)) (earlier_too call later now _ (crash_recorded number later now torn))
+pub crash_recorded : (number : ℕ) (calls : List KeptCall) (now : CrashRecord) (torn : List ℕ) → AllLieIn now.areas calls
+    → IfSome (first_stopped (kept_from number calls) now torn) (λ given. LeftBy (drop (moment_of number calls) calls) now (recorded given (first_torn (kept_from number calls))))
+crash_recorded number [] now torn all = tt
+crash_recorded number (call ∷ later) now torn all = cases (nat_eq (number_of call) number) (stopped_within call later now torn all) (crash_recorded number later now torn all.1)
   where
-    cases : (b : Bool) → IfSome (first_stopped (call ∷ later) now torn) (HasRecord (call ∷ later) now) → IfSome (first_stopped (kept_from number later) now torn) (HasRecord (call ∷ later) now)
-        → IfSome (first_stopped (if b then call ∷ later else kept_from number later) now torn) (HasRecord (call ∷ later) now)
+    cases : (b : Bool) → IfSome (first_stopped (call ∷ later) now torn) (λ given. LeftBy (call ∷ later) now (recorded given (first_torn (call ∷ later))))
+        → IfSome (first_stopped (kept_from number later) now torn) (λ given. LeftBy (drop (moment_of number later) later) now (recorded given (first_torn (kept_from number later))))
+        → IfSome (first_stopped (if b then call ∷ later else kept_from number later) now torn)
+        (λ given. LeftBy (drop (if b then 0 else moment_of number later + 1) (call ∷ later)) now (recorded given (first_torn (if b then call ∷ later else kept_from number later))))
     cases true here there = here
-    cases false here there = there
+    cases false here there = rw add-one there
 
 same_items : (xs ys : List ℕ) → AllZip (λ x y. y ≡ x) xs ys → ys ≡ xs
 same_items [] [] all = refl

@@ -6,7 +6,7 @@ ghost use Rattle.std.specs.FinMap.{get, insert};
 ghost use Rattle.std.specs.Option.{option_copied};
 ghost use Rattle.std.specs.Result.{is_err};
 ghost use Rattle.rig_trait.specs.Areas.{IsWithin, size_in, written};
-ghost use Rattle.rig_trait.specs.Crashed.{crashed, IsLeft};
+ghost use Rattle.rig_trait.specs.Crashed.{crashed, first_torn, moment_of, IsLeft};
 ghost use Rattle.rig_trait.specs.Counts.{read_counted, fault_counted, say_fault_counted};
 ghost use Rattle.rig_trait.specs.Faults.{one_more};
 ghost use Rattle.rig_trait.specs.Frames.{IsTold, Reads, WritesTo, SaysOnly, FailsAt, GivesBytes, WritesBytes};
@@ -149,8 +149,10 @@ impl MemoryRig {
         torn: &[u8],
     ) -> Result<Option<MemoryRig>, AllocError>
         ensures crashed { IfOk result (λ given. given ≡ crashed self.now call torn.now) }
-        // A stop since keeping began might have left these areas and these bytes said.
-        ensures left { IfOk result (λ given. IfSome given (λ rig. IsLeft ⟦<MemoryRig as Shown>⟧ self.now 0 rig)) }
+        // A stop since the call began might have left these areas and these bytes said, with the call as its torn write,
+        // where it is a write.
+        ensures left { IfOk result (λ given. IfSome given (IsLeft ⟦<MemoryRig as Shown>⟧ self.now
+            (moment_of call (kept_calls self.now.keeping)) (first_torn (kept_from call (kept_calls self.now.keeping))))) }
     {
         let Some(keeping) = &self.keeping else {
             return Ok(None);

@@ -46,8 +46,9 @@ use Rattle.cmd_words.specs.declared.name_keys.NameKey.{NameKey}
 use Rattle.cmd_words.specs.declared.commands.Command.{Command}
 use Rattle.cmd_words.specs.declared.commands.Command.TheVariants as commands
 use Rattle.sessions.specs.declared.faults.RunFault.{RunFault}
-use Rattle.sessions.specs.Commands.{Does, HasAreas, IsBeforeOrAfter, LeavesArea, SaysIfKnown, is_change, may_change, result_changes, written_by}
+use Rattle.sessions.specs.Commands.{Does, HasAreas, IsBeforeOrAfter, LeavesArea, SaysIfKnown, is_change, is_init, may_change, result_changes, written_by}
 use Rattle.sessions.specs.Done.{IsDone, Stand, run_by}
+use Rattle.sessions.proofs.Found.{said-told}
 use Rattle.sessions.proofs.Telling.{no_call}
 use Rattle.sessions.specs.Faults.{HasRunCause, IsRunAmong, IsRunAt}
 
@@ -123,8 +124,8 @@ pub record IsCommandOf (P : Platform) (slots : ℕ → ℕ) (L : Labels) (comman
   pub says : (known fact : Type 0) → fact → SaysIfKnown P command known fact
   pub quiet : (answer : Result Reply RunFault) → may_change command answer ≡ result_changes answer
   pub written : written_by P command ≡ modules
+  pub other : is_init command ≡ false
   pub areas : (areas now : Areas) (answer : Result Reply RunFault) → HasAreas command areas now answer
-  pub left : (areas : Areas) (said : List ℕ) (c : CrashRecord) → LeavesArea command areas said c
   pub refuses : RefusesUnchanged does
 
 module _ {R : Type 0} (m : Ghosts R) (P : Platform) (sets : StoredSets) (in_P : IsStateOf P sets) (command : Command) (own modules : List ℕ) (does : Reply → State → Type 0)
@@ -149,14 +150,14 @@ module _ {R : Type 0} (m : Ghosts R) (P : Platform) (sets : StoredSets) (in_P : 
       → IsDone m P command own sets old now new (run_by result)
   change-is-done result has among = record {
     step = change-step result has;
+    anyhow = said-told P (slots_at sets) (labels_in sets) command own (state P (labels_in now)) (Stand m old sets) is.other (run_by result) (change-step result has);
     stands = λ stand. on-run _ result (has.stands stand.0 stand.1);
     any_moment = change-left result has;
     kept = λ quiet. change-kept does is.refuses (state_in now) (now ≡ sets) result has.step has.refused has.memory (sym (is.quiet (run_by result)) ∙ quiet);
     reads_only = λ quiet. subst (Reads m old) (sym (change-kept does is.refuses (state_in now) (new ≡ old) result has.step has.unwritten has.unwritten_memory (sym (is.quiet (run_by result)) ∙ quiet))) (no_call m old);
     writes = subst (λ (hs : List ℕ). WritesAmong hs m old new) (sym is.written) has.writes_among;
-    area = λ stand. is.areas (m.areas old) (m.areas new) (run_by result);
-    area_left = λ stand. weakened (LeftIn P.modules (m.said old) (IsBeforeOrAfter P (slots_at sets) (labels_in sets) command own)) (LeavesArea command (m.areas old) (m.said old))
-        (λ c left. is.left (m.areas old) (m.said old) c) (change-left result has stand);
+    area = λ told. is.areas (m.areas old) (m.areas new) (run_by result);
+    area_left = λ init. absurd (let differ : true ≡ false = sym init ∙ is.other in cc);
     cause = change-cause m old new modules result has.cause;
     among = among;
     at = subst (λ (hs : List ℕ). IfErr (run_by result) (IsRunAt hs)) (sym is.written) (change-at m old new modules result has.cause);
@@ -185,8 +186,8 @@ module _ (P : Platform) (slots : ℕ → ℕ) (L : Labels) (own : List ℕ) wher
     says = λ known fact is. is;
     quiet = λ answer. refl;
     written = refl;
+    other = refl;
     areas = λ areas now answer. tt;
-    left = λ areas said c. tt;
     refuses = create-refuses _;
   }
 
@@ -196,8 +197,8 @@ module _ (P : Platform) (slots : ℕ → ℕ) (L : Labels) (own : List ℕ) wher
     says = λ known fact is. is;
     quiet = λ answer. refl;
     written = refl;
+    other = refl;
     areas = λ areas now answer. tt;
-    left = λ areas said c. tt;
     refuses = λ reply after does. refused-by (state P L) (IsDestroyed P L region key) (λ reply after done. ap is_change done.reply_is) reply after (first_of (destroy_refusals P L region key)) does;
   }
 
@@ -207,8 +208,8 @@ module _ (P : Platform) (slots : ℕ → ℕ) (L : Labels) (own : List ℕ) wher
     says = λ known fact is. is;
     quiet = λ answer. refl;
     written = refl;
+    other = refl;
     areas = λ areas now answer. tt;
-    left = λ areas said c. tt;
     refuses = λ reply after does. refused-by (state P L) (IsRenamed P L region key name) (λ reply after done. ap is_change done.reply_is) reply after (first_of (rename_refusals P L region key name)) does;
   }
 
@@ -218,7 +219,7 @@ module _ (P : Platform) (slots : ℕ → ℕ) (L : Labels) (own : List ℕ) wher
     says = λ known fact is. is;
     quiet = λ answer. refl;
     written = refl;
+    other = refl;
     areas = λ areas now answer. tt;
-    left = λ areas said c. tt;
     refuses = λ reply after does. refused-by (state P L) (IsReleased P L dimm uuid) (λ reply after done. ap is_change done.reply_is) reply after (first_of (release_refusals P L dimm uuid)) does;
   }

@@ -44,7 +44,8 @@ use Rattle.label_table.proofs.ListTests.{eq_same}
 use Rattle.namespace_staging.proofs.Records.{no_write, one_write_more}
 use Rattle.sessions.specs.Commands.{IsBeforeOrAfter, has_module, is_change, result_changes}
 use Rattle.sessions.specs.Faults.{HasRunCause, IsRunAmong, IsRunAt}
-use Rattle.sessions.specs.Done.{IsDone, Stand, init_answer, init_refusal, run_by}
+use Rattle.sessions.specs.Done.{IsDone, Stand, init_answer, run_by}
+use Rattle.sessions.specs.Found.{DoesAnyhow, init_refusal}
 use Rattle.label_area.proofs.Initialising.{looking}
 use Rattle.sessions.proofs.Telling.{no_call, standing, still}
 
@@ -211,6 +212,15 @@ module _ {R : Type 0} (m : Ghosts R) (P : Platform) (sets : StoredSets) (in_P : 
   init-step (Err (inits.Failed failed)) has = tt
   init-step (Err inits.Memory) has = tt
 
+  -- whatever the area holds
+  init-anyhow : (result : Result ℕ SetInitFault) → HasInit m dimm sets old now new result
+      → IfOk (run_by (init_answer dimm result)) (λ reply. DoesAnyhow P (slots_at sets) (labels_in sets) (InitLabels dimm) own reply (state P (labels_in now)))
+  init-anyhow (Ok slots) has = inl (init-done P sets in_P dimm known (kept-kind P sets in_P dimm known has.uninit) slots has.slots (state P (labels_in now))
+      (sym (state-there P now (has.regions ∙ in_P.regions) (labels_in now)) ∙ has.state_is ∙ after-is P sets in_P dimm known))
+  init-anyhow (Err (inits.Refused told)) has = inr (record { known = known; found = told; other = has.not_uninit; reply_is = refl; kept = ap (λ (s : StoredSets). state P (labels_in s)) has.kept })
+  init-anyhow (Err (inits.Failed failed)) has = tt
+  init-anyhow (Err inits.Memory) has = tt
+
   init-stands : (result : Result ℕ SetInitFault) → HasInit m dimm sets old now new result → Stand m old sets → OnOk (run_by (init_answer dimm result)) (All (StandsIn (m.areas new)) now.modules)
   init-stands (Ok slots) has stand = has.stands stand refl
   init-stands (Err (inits.Refused told)) has stand = has.stands stand refl
@@ -257,13 +267,14 @@ module _ {R : Type 0} (m : Ghosts R) (P : Platform) (sets : StoredSets) (in_P : 
   pub init-is-done : (result : Result ℕ SetInitFault) → HasInit m dimm sets old now new result → IsDone m P (InitLabels dimm) own sets old now new (run_by (init_answer dimm result))
   init-is-done result has = record {
     step = init-step result has;
+    anyhow = init-anyhow result has;
     stands = init-stands result has;
     any_moment = λ stand. init-left P sets in_P dimm known m own old new stand (has.any_moment stand) (has.area_left stand.0);
     kept = init-kept result has;
     reads_only = init-read result has;
     writes = one_write_more (dimm ∷ []) dimm (ap (λ b. b || false) (eq_same dimm dimm refl)) (no_write {m = m} (dimm ∷ []) old) has.writes_only;
-    area = λ stand. record { written = init-areas result has stand.0; kept = has.unwritten stand.0 };
-    area_left = λ stand. has.area_left stand.0;
+    area = λ told. record { written = init-areas result has told; kept = has.unwritten told };
+    area_left = λ init told. has.area_left told;
     cause = init-cause result has;
     among = init-among result has;
     at = init-at result has;
@@ -278,13 +289,14 @@ pub unknown-done : {R : Type 0} (m : Ghosts R) (P : Platform) (sets : StoredSets
     → IsDone m P (InitLabels dimm) own sets rig sets rig (Ok (Refused (UnknownDimm dimm)))
 unknown-done m P sets in_P dimm own rig not_there = record {
   step = λ either. init-unknown P sets in_P dimm (list_any (λ handle. handle == dimm) P.modules) refl not_there (slots_at sets dimm);
+  anyhow = inl (init-unknown P sets in_P dimm (list_any (λ handle. handle == dimm) P.modules) refl not_there (slots_at sets dimm));
   stands = λ stand. stand.1;
   any_moment = still m P sets in_P (InitLabels dimm) own rig;
   kept = λ quiet. refl;
   reads_only = λ quiet. no_call m rig;
   writes = no_write {m = m} (dimm ∷ []) rig;
-  area = λ stand. record { written = λ change. absurd (let differ : false ≡ true = change in cc); kept = λ other. refl };
-  area_left = λ stand. looking {m = m} dimm (no_call m rig);
+  area = λ told. record { written = λ change. absurd (let differ : false ≡ true = change in cc); kept = λ other. refl };
+  area_left = λ init told. looking {m = m} dimm (no_call m rig);
   cause = record { faults = refl; failed_dimm = refl };
   among = tt;
   at = tt;

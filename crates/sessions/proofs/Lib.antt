@@ -1,3 +1,4 @@
+pub mod Found
 pub mod Telling
 pub mod Standing
 pub mod Changing

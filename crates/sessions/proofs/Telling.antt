@@ -25,6 +25,7 @@ use Rattle.sessions.specs.declared.faults.RunFault.{RunFault}
 use Rattle.sessions.specs.Commands.{Does, HasAreas, IsBeforeOrAfter, LeavesArea, SaysIfKnown, Tells, may_change, written_by}
 use Rattle.sessions.specs.Done.{IsDone, Stand, run_by, told_by}
 use Rattle.sessions.specs.Faults.{HasRunCause, IsRunAmong, IsRunAt}
+use Rattle.sessions.proofs.Found.{found-anyhow, quiet-other, said-told}
 
 -- no call was made
 pub no_call : {R : Type 0} (m : Ghosts R) (rig : R) → Reads m rig rig
@@ -98,14 +99,15 @@ module _ {R : Type 0} (m : Ghosts R) (P : Platform) (sets : StoredSets) (in_P : 
         → ((areas : Areas) (said : List ℕ) (c : CrashRecord) → LeavesArea command areas said c)
         → IsDone m P command own sets rig sets rig (run_by (told_by result))
     tells-done result step quiet area left = record {
+      anyhow = told-step _ result (said-told P (slots_at sets) (labels_in sets) command own (state P (labels_in sets)) (Stand m rig sets) (quiet-other command quiet) result step);
       step = told-step (λ reply. SaysIfKnown P command (Stand m rig sets) (Does P (slots_at sets) (labels_in sets) command own reply (state P (labels_in sets)))) result step;
       stands = λ stand. stand-ok result stand.1;
       any_moment = still command own rig;
       kept = λ quiet_so. refl;
       reads_only = λ quiet_so. no_call m rig;
       writes = no_write (written_by P command) rig;
-      area = λ stand. area (m.areas rig) (m.areas rig) (run_by (told_by result));
-      area_left = λ stand. reading (LeavesArea command (m.areas rig) (m.said rig)) (λ c same said. left (m.areas rig) (m.said rig) c) (no_call m rig);
+      area = λ told. area (m.areas rig) (m.areas rig) (run_by (told_by result));
+      area_left = λ init told. reading (LeavesArea command (m.areas rig) (m.said rig)) (λ c same said. left (m.areas rig) (m.said rig) c) (no_call m rig);
       cause = no-cause result;
       among = no-module result;
       at = no-module-at result;

@@ -1,14 +1,9 @@
 -- How a command is done on the state of a platform's modules.
-use Rattle.std.specs.Prelude.{◌≡◌, ℕ, false, List, map, IfErr, IfOk, OnOk, Result, Ok, Err}
+use Rattle.std.specs.Prelude.{◌≡◌, ℕ, false, true, List, map, IfErr, IfOk, OnOk, Result, Ok, Err}
 use Rattle.std.specs.List.{All}
 use Rattle.std.specs.declared.alloc.AllocError.{AllocError}
-use Rattle.view_types.specs.declared.refusal.Refusal.{Refusal}
-use Rattle.view_types.specs.declared.refusal.Refusal.TheVariants.{AlreadyReady, NotReady}
 use Rattle.view_types.specs.declared.reply.Reply.{Reply}
 use Rattle.view_types.specs.declared.reply.Reply.TheVariants as replies
-use Rattle.view_types.specs.declared.states.AreaState.{AreaState}
-use Rattle.view_types.specs.declared.states.AreaState.TheVariants as states
-use Rattle.view_types.specs.declared.states.Status.TheVariants as statuses
 use Rattle.rig_trait.specs.declared.shown.Shown.{Ghosts}
 use Rattle.rig_trait.specs.Frames.{IsTold, LeavesOnly, Reads}
 use Rattle.region_map.specs.declared.platform.Platform.{Platform}
@@ -25,6 +20,7 @@ use Rattle.namespace_core.specs.declared.creation.ChangeFault.{ChangeFault}
 use Rattle.namespace_core.specs.declared.creation.ChangeFault.TheVariants as changes
 use Rattle.sessions.specs.Commands.{Does, HasAreas, IsBeforeOrAfter, LeavesArea, SaysIfKnown, is_init, may_change}
 use Rattle.sessions.specs.Commands.{written_by}
+use Rattle.sessions.specs.Found.{DoesAnyhow, init_refusal}
 use Rattle.sessions.specs.Faults.{HasRunCause, IsRunAmong, IsRunAt, fault_by}
 use Rattle.sessions.specs.declared.faults.RunFault.{RunFault}
 
@@ -41,14 +37,17 @@ pub record IsDone {R : Type 0} (m : Ghosts R) (platform : Platform) (command : C
     (sets : StoredSets) (old : R) (now : StoredSets) (new : R) (answer : Result Reply RunFault) : Type 0 where
   pub step : IfOk answer (λ reply. SaysIfKnown platform command (Stand m old sets)
       (Does platform (slots_at sets) (labels_in sets) command own reply (state platform (labels_in now))))
+  pub anyhow : IfOk answer (λ reply. DoesAnyhow platform (slots_at sets) (labels_in sets) command own reply
+      (state platform (labels_in now)))
   pub stands : Stand m old sets → OnOk answer (All (StandsIn (m.areas new)) now.modules)
   pub any_moment : Stand m old sets → LeavesOnly m old new (LeftIn platform.modules (m.said old)
       (IsBeforeOrAfter platform (slots_at sets) (labels_in sets) command own))
   pub kept : may_change command answer ≡ false → now ≡ sets
   pub reads_only : may_change command answer ≡ false → Reads m old new
   pub writes : WritesAmong (written_by platform command) m old new
-  pub area : Stand m old sets → HasAreas command (m.areas old) (m.areas new) answer
-  pub area_left : Stand m old sets → LeavesOnly m old new (LeavesArea command (m.areas old) (m.said old))
+  pub area : IsTold m old → HasAreas command (m.areas old) (m.areas new) answer
+  pub area_left : is_init command ≡ true → IsTold m old
+      → LeavesOnly m old new (LeavesArea command (m.areas old) (m.said old))
   pub cause : HasRunCause m old new answer
   pub among : IfErr answer (IsRunAmong platform.modules)
   pub at : IfErr answer (IsRunAt (written_by platform command))
@@ -61,14 +60,6 @@ pub record IsDone {R : Type 0} (m : Ghosts R) (platform : Platform) (command : C
 abbrev pub told_by : Result Reply AllocError → Result Reply ChangeFault
 told_by (Ok reply) = Ok reply
 told_by (Err error) = Err changes.Memory
-
--- why the area of a module in this state is not initialised
-abbrev pub init_refusal : ℕ → AreaState → Refusal
-init_refusal dimm (states.Ready slots spare) = AlreadyReady dimm
-init_refusal dimm states.Missing = NotReady (statuses.Area dimm states.Missing)
-init_refusal dimm states.WrongSize = NotReady (statuses.Area dimm states.WrongSize)
-init_refusal dimm states.Uninit = NotReady (statuses.Area dimm states.Uninit)
-init_refusal dimm states.Foreign = NotReady (statuses.Area dimm states.Foreign)
 
 -- what a command is answered that initialises the area of a module
 abbrev pub init_answer : ℕ → Result ℕ SetInitFault → Result Reply ChangeFault

@@ -1,5 +1,6 @@
 pub mod Commands
 pub mod Faults
+pub mod Found
 pub mod Done
 pub mod Sessions
 pub mod Codes

@@ -7,7 +7,8 @@ ghost use Rattle.region_map.specs.Platforms.{IsSound};
 ghost use Rattle.module_flips.specs.Flips.{IsSizedIn};
 ghost use Rattle.cmd_words.specs.declared.commands.Command.TheVariants.{InitLabels};
 ghost use Rattle.namespace_core.specs.Lists.{IsStateOf};
-ghost use Rattle.sessions.specs.Done.{IsDone, init_answer, init_refusal, run_by, told_by};
+ghost use Rattle.sessions.specs.Done.{IsDone, init_answer, run_by, told_by};
+ghost use Rattle.sessions.specs.Found.{init_refusal};
 
 use cmd_words::Command;
 use label_sets::{SetInitFault, Sets};

@@ -11,6 +11,7 @@ ghost use Rattle.sessions.specs.Commands.{Does, HasAreas, IsBeforeOrAfter, Leave
 ghost use Rattle.sessions.specs.Commands.{is_init, may_change, written_by};
 ghost use Rattle.sessions.specs.Faults.{HasOpenCause, HasRunCause, IsOpenAmong, IsRunAmong, IsRunAt, IsSpent};
 ghost use Rattle.sessions.specs.Faults.{spent_after};
+ghost use Rattle.sessions.specs.Found.{DoesAnyhow};
 ghost use Rattle.sessions.specs.Sessions.{IsCurrent, labels_of, opens, slots_of, state_of};
 ghost use Rattle.sessions.specs.Success.{CanCreate, HasCreated};
 ghost use Rattle.sessions.specs.Views.{IsView};
@@ -98,6 +99,11 @@ impl Session {
             (state_of self.new))) }
         ensures current { IsCurrent R.Shown rig.old self.old → OnOk result (IsCurrent R.Shown rig.new self.new) }
 
+        // Whatever the areas hold, they are those of the step, or `init-labels` is refused for the state in which it
+        // finds its area.
+        ensures anyhow { IfOk result (λ reply. DoesAnyhow self.old.platform (slots_of self.old) (labels_of self.old)
+            command.now own reply (state_of self.new)) }
+
         // Where none of the conditions on a create fails it is accepted, unless an area fails or memory is refused.
         ensures creates { CanCreate self.old.platform (labels_of self.old) command.now own → IfOk result HasCreated }
 
@@ -112,9 +118,8 @@ impl Session {
 
         // No other module is written, and `init-labels` writes its index blocks alone.
         ensures writes { WritesAmong (written_by self.old.platform command.now) R.Shown rig.old rig.new }
-        ensures area { IsCurrent R.Shown rig.old self.old
-            → HasAreas command.now (R.areas rig.old) (R.areas rig.new) result }
-        ensures area_left { IsCurrent R.Shown rig.old self.old
+        ensures area { IsTold R.Shown rig.old → HasAreas command.now (R.areas rig.old) (R.areas rig.new) result }
+        ensures area_left { is_init command.now ≡ true → IsTold R.Shown rig.old
             → LeavesOnly R.Shown rig.old rig.new (LeavesArea command.now (R.areas rig.old) (R.said rig.old)) }
 
         ensures cause { HasRunCause R.Shown rig.old rig.new result }

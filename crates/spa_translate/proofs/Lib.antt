@@ -13,3 +13,4 @@ pub mod Putting
 pub mod Reaching
 pub mod Spans
 pub mod Running
+pub mod OneRuns

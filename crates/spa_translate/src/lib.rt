@@ -7,11 +7,13 @@
 mod faults;
 mod laws;
 mod places;
+mod run_laws;
 mod runs;
 mod strand;
 mod weave;
 
 pub use faults::CheckFault;
 pub use laws::{intervals_apart, one_to_one, whole_intervals};
+pub use run_laws::one_list_of_runs;
 pub use strand::Strand;
 pub use weave::Weave;

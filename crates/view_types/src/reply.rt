@@ -36,7 +36,7 @@ pub enum Reply {
     },
     /// So many held labels of the module were given up.
     Released {
-        labels: u32,
+        count: u32,
     },
     /// Namespaces, by the index of their region, then by offset and uuid.
     Namespaces(List<Listed>),

@@ -1,6 +1,10 @@
 use Rattle.std.proofs.Common.{◌≡◌, ◌+◌, ◌<◌, ℕ, suc, ◌||◌, Bool, Bor, List, [], Some, Err, get_or, length, map, option_map, sym, ap, ◌∙◌, subst, arith}
 use Rattle.std.specs.Prelude.{slice_get}
 use Rattle.std.proofs.lemmas.Option.{slice_get-get_or, slice_get-map}
+use Rattle.std.proofs.lemmas.List.{length-map}
+use Rattle.rig_trait.specs.declared.shown.Shown.{Ghosts}
+use Rattle.sessions.specs.Sessions.{IsCurrent, StoredSession}
+use Rattle.command_runs.specs.Ends.{IsFinished, run_of}
 use Rattle.command_runs.proofs.Ended.{cut-short}
 use Rattle.command_runs.proofs.Going.{IsGoing, any-moment-on, bytes-left-on, bytes-on, going-first, going-on, reads-on, still-sized}
 use Rattle.command_runs.proofs.runs.run_lines.Goals.{then-refused, else-refused}
@@ -11,6 +15,20 @@ no_line = record { ref_ptr = (0, 0); now = [] }
 
 next-is : (lines : List (Bor (List ℕ))) (k : ℕ) → k < length lines → slice_get (map (λ line. line.now) lines) k ≡ Some (get_or lines k no_line).now
 next-is lines k lt = slice_get-map (λ (line : Bor (List ℕ)). line.now) lines k ∙ ap (option_map (λ (line : Bor (List ℕ)). line.now)) (slice_get-get_or lines k no_line lt)
+
+-- all lines are done
+module _ {R : Type 0} (m : Ghosts R) (start : StoredSession) (seed : ℕ) (lines : List (List ℕ)) (old : R) (session : StoredSession) (new : R) (refused : Bool) where
+  finished : (k : ℕ) → k ≡ length lines → IsGoing m start seed lines old k session new refused → IsFinished m (IsCurrent m old start) (run_of start seed lines) old new session refused
+  finished k same going =
+      let all = subst (λ (n : ℕ). IsGoing m start seed lines old n session new refused) same going in
+      record { progress = all.progress; behind = all.behind; refused_is = all.refused_is; through = all.through; kept = all.kept; no_more = all.no_more }
+
+pub returns-clause-ends : goal.returns-clause-ends
+returns-clause-ends g c =
+    let lines = map (λ (line : Bor (List ℕ)). line.now) c.args.lines.now in
+    let count : length lines ≡ length c.args.lines.now = length-map c.args.lines.now (λ (line : Bor (List ℕ)). line.now) in
+    finished g.R.Shown c.args.session.now c.args.seed lines c.args.rig.now c.loop-index.session c.loop-index.rig c.loop-index.refused c.loop-index.index
+    (omega (arith, count, c.loop-index-test.false, c.loop-index.auto.index-end)) c.loop-index.invariant
 
 pub loop-index-init : goal.loop-index-init
 loop-index-init g c = going-first g.R.Shown c.args.session.now c.args.seed (map (λ line. line.now) c.args.lines.now) c.args.rig.now c.requires.unspent

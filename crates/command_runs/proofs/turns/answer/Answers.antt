@@ -19,6 +19,7 @@ returns-in-Ok-Some g c =
     let did = c.apply.ensures in
     let has : HasApplied m session command c.own_uuid.result old now new c.apply.result = record {
       step = did.step;
+      anyhow = did.anyhow;
       current = did.current;
       any_moment = did.any_moment;
       kept = did.kept;

@@ -1,5 +1,4 @@
 use Rattle.std.proofs.Common.{◌≡◌, ◌≤◌, length}
-use Rattle.std.specs.Prelude.{string_bytes}
 use Rattle.std.specs.List.{flat_map}
 use Rattle.label_area.specs.LoadedAreas.{labels_by_slot}
 use Rattle.label_listing.specs.Listing.{label_line}
@@ -8,7 +7,7 @@ use Rattle.label_listing.proofs.lines.listing.Given as goal
 
 abbrev pub invariant-loop-slot : goal.invariant-loop-slot
 invariant-loop-slot l = record {
-  text_is : string_bytes l.text ≡ flat_map label_line (live_front (labels_by_slot l.area) l.slot-index);
+  text_is : l.text.items ≡ flat_map label_line (live_front (labels_by_slot l.area) l.slot-index);
   count_is : l.count ≡ length (live_front (labels_by_slot l.area) l.slot-index);
   bound : l.count ≤ l.slot-index;
 }

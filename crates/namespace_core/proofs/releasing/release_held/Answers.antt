@@ -39,9 +39,9 @@ returns-in-Ok-clause-change g c =
     let same = c.requires.state.regions in
     let none = sym c.in-Ok-None.ensures ∙ c.in-Ok-None.field-0-is in
     let F = IsBeforeOrReleased (platform_in sets) dimm u (labels_in sets) in
-    done-change g.R.Shown (dimm ∷ []) P (Releases P (labels_in sets) dimm u) sets c.args.rig.now c.release.new.rig F now (release-fits P sets same dimm u none) c.in-Ok.labels (Released c.in-Ok.labels)
-    (flip-pass g.R.Shown dimm F sets now (Ok c.in-Ok.labels) did.regions did.dimms did.sizes c.in-Ok.ensures.stands did.any_moment did.writes_only c.in-Ok.ensures.cause c.in-Ok.ensures.names did.reads)
-    (λ fact. tt) (releases P sets same dimm u none c.in-Ok.labels (state_in now) c.in-Ok.ensures.count c.in-Ok.ensures.released)
+    done-change g.R.Shown (dimm ∷ []) P (Releases P (labels_in sets) dimm u) sets c.args.rig.now c.release.new.rig F now (release-fits P sets same dimm u none) c.in-Ok.count (Released c.in-Ok.count)
+    (flip-pass g.R.Shown dimm F sets now (Ok c.in-Ok.count) did.regions did.dimms did.sizes c.in-Ok.ensures.stands did.any_moment did.writes_only c.in-Ok.ensures.cause c.in-Ok.ensures.names did.reads)
+    (λ fact. tt) (releases P sets same dimm u none c.in-Ok.count (state_in now) c.in-Ok.ensures.count c.in-Ok.ensures.released)
 
 pub returns-in-Err-release-clause-change : goal.returns-in-Err-release-clause-change
 returns-in-Err-release-clause-change g c =

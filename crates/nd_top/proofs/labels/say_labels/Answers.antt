@@ -8,7 +8,7 @@ pub returns-in-Ok-listing : goal.returns-in-Ok-listing
 returns-in-Ok-listing g c =
     let read = c.load.new.rig in
     listed g.R.Shown c.args.dimm c.args.rig.now read c.say.new.rig c.say.result c.in-Ok.area c.in-Ok.ensures.dimm c.load.ensures.reads_only c.in-Ok.ensures.loaded c.in-Ok.ensures.cause
-    (subst (λ (text : List ℕ). Says g.R.Shown read c.say.new.rig text 0 c.say.result) (c.as_bytes.ensures.value ∙ c.in-Ok-listing.ensures) c.say.ensures)
+    (subst (λ (text : List ℕ). Says g.R.Shown read c.say.new.rig text 0 c.say.result) (c.deref.ensures.value ∙ c.in-Ok-listing.ensures) c.say.ensures)
 
 pub returns-in-Ok : goal.returns-in-Ok
 returns-in-Ok g c = record {

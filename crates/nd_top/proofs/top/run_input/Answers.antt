@@ -12,7 +12,7 @@ use Rattle.nd_top.proofs.top.run_input.Goals as goal
 pub returns-in-Err-read_all-clause-ends : goal.returns-in-Err-read_all-clause-ends
 returns-in-Err-read_all-clause-ends g c =
     let says = c.say_fault-in-Err-read_all in
-    input_unread c.in-Ok.platform (record { sound = c.in-Ok.ensures.sound; is_in = c.in-Ok.ensures.platform; draws = c.in-Ok.ensures.draws }) (record {
+    input_unread c.in-Ok.platform (record { sound = c.in-Ok.ensures.sound; is_in = c.in-Ok.ensures.platform; ended = c.in-Ok.ensures.ended; draws = c.in-Ok.ensures.draws }) (record {
       fault = c.in-Err-read_all.fault;
       cause = input_cause g.I.Source c.args.input.now c.in-Err-read_all.fault c.in-Err-read_all.ensures.bytes;
       draws = c.in-Err-read_all.ensures.draws;
@@ -22,7 +22,7 @@ returns-in-Err-read_all-clause-ends g c =
 pub returns-in-Ok-lines_of-clause-ends : goal.returns-in-Ok-lines_of-clause-ends
 returns-in-Ok-lines_of-clause-ends g c =
     let lines : List (List ℕ) = map (λ line. line.now) c.deref-in-Ok-lines_of.result.now in
-    input_on c.in-Ok.platform (record { sound = c.in-Ok.ensures.sound; is_in = c.in-Ok.ensures.platform; draws = c.in-Ok.ensures.draws }) lines (record {
+    input_on c.in-Ok.platform (record { sound = c.in-Ok.ensures.sound; is_in = c.in-Ok.ensures.platform; ended = c.in-Ok.ensures.ended; draws = c.in-Ok.ensures.draws }) lines (record {
       bytes = c.in-Ok-read_all.bytes.items;
       lines_are = ap (λ (parts : List (Bor (List ℕ))). map (λ line. line.now) parts) c.deref-in-Ok-lines_of.ensures.value ∙ c.in-Ok-lines_of.ensures ∙ ap lines_in c.deref.ensures.value;
       few = c.in-Ok-read_all.ensures.few;
@@ -33,5 +33,5 @@ returns-in-Ok-lines_of-clause-ends g c =
 
 pub returns-in-Err-lines_of-clause-ends : goal.returns-in-Err-lines_of-clause-ends
 returns-in-Err-lines_of-clause-ends g c =
-    input_unread c.in-Ok.platform (record { sound = c.in-Ok.ensures.sound; is_in = c.in-Ok.ensures.platform; draws = c.in-Ok.ensures.draws })
+    input_unread c.in-Ok.platform (record { sound = c.in-Ok.ensures.sound; is_in = c.in-Ok.ensures.platform; ended = c.in-Ok.ensures.ended; draws = c.in-Ok.ensures.draws })
     (record { fault = Memory; cause = tt; draws = c.in-Ok-read_all.ensures.draws; says = c.say_fault-in-Err-lines_of.ensures })

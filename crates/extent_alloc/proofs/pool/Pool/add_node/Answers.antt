@@ -5,7 +5,7 @@ use Rattle.extent_alloc.proofs.Chains.{links_from-added, times-beyond, slice_get
 use Rattle.extent_alloc.proofs.pool.Pool.add_node.Goals as goal
 
 pub invariant_of-self-2 : goal.invariant_of-self-2
-invariant_of-self-2 c =
+invariant_of-self-2 g c =
     let pool = c.self.inside in
     let items = c.in_ok-push.ensures.items in
     let at : c.len-at.result ≡ length pool.nodes.items = omega (arith, c.len-at.ensures) in
@@ -16,7 +16,7 @@ invariant_of-self-2 c =
     }
 
 pub returns-clause-given : goal.returns-clause-given
-returns-clause-given c =
+returns-clause-given g c =
     let pool = c.self.inside in
     let at : c.len-at.result ≡ length pool.nodes.items = omega (arith, c.len-at.ensures) in
     (λ i. first_at (links_from (c.in_ok-push.ensures.items i) (pool.spare_len + 1) (Some (at i))))
@@ -24,7 +24,7 @@ returns-clause-given c =
     ∙ ap (λ (n : Nodes). Some (length n.nodes)) c.self.view_is
 
 pub returns-clause-rest : goal.returns-clause-rest
-returns-clause-rest c =
+returns-clause-rest g c =
     let pool = c.self.inside in
     let at : c.len-at.result ≡ length pool.nodes.items = omega (arith, c.len-at.ensures) in
     (λ i. drop 1 (links_from (c.in_ok-push.ensures.items i) (pool.spare_len + 1) (Some (at i))))
@@ -32,14 +32,14 @@ returns-clause-rest c =
     ∙ ap (λ (n : Nodes). n.idle) c.self.view_is
 
 pub returns-clause-others : goal.returns-clause-others
-returns-clause-others c k lt =
+returns-clause-others g c k lt =
     let len = ap (λ (n : Nodes). length n.nodes) c.self.view_is in
     ap (λ ns. slice_get ns k) c.in_ok-push.ensures.items
     ∙ slice_get-append c.self.inside.nodes.items _ k (omega (arith, len))
     ∙ ap (λ (n : Nodes). slice_get n.nodes k) c.self.view_is
 
 pub returns-clause-fresh : goal.returns-clause-fresh
-returns-clause-fresh c =
+returns-clause-fresh g c =
     let pool = c.self.inside in
     ap (λ (n : Nodes). times (length n.nodes) n.idle) (sym c.self.view_is)
     ∙ times-beyond pool.nodes.items pool.spare_len pool.spare (length pool.nodes.items) (omega arith)

@@ -1,14 +1,14 @@
-use Rattle.std.proofs.Common.{◌≡◌, true, Option, Some, None, sym, ap, subst, ◌∙◌}
+use Rattle.std.proofs.Common.{◌≡◌, ℕ, List, drop, true, Option, Some, None, sym, ap, subst, ◌∙◌}
 use Rattle.std.specs.FinMap.{from_entries}
 use Rattle.std.specs.Option.{option_map}
 use Rattle.std.specs.Prelude.{IfSome, is_some}
 use Rattle.rig_trait.specs.Areas.{Areas}
-use Rattle.rig_trait.specs.Crashed.{first_stopped, made_of}
+use Rattle.rig_trait.specs.Crashed.{first_stopped, first_torn, made_of, moment_of}
 use Rattle.rig_trait.specs.Kept.{Keeping, AllLieIn, kept_calls, kept_from}
 use Rattle.rig_trait.specs.Memory.{Memory, areas_of}
 use Rattle.rig_trait.specs.Records.{CrashRecord}
-use Rattle.rig_trait.specs.Undone.{standing, whole}
-use Rattle.rig_trait.proofs.Stopping.{HasRecord, crash_recorded, same_bytes}
+use Rattle.rig_trait.specs.Undone.{LeftBy, standing, whole}
+use Rattle.rig_trait.proofs.Stopping.{crash_recorded, same_bytes}
 use Rattle.rig_trait.proofs.memory.MemoryRig.crash.Goals as goal
 use Rattle.rig_trait.proofs.memory.MemoryRig.crash.Goals.{After-drop-said-2}
 
@@ -45,7 +45,11 @@ returns-clause-crashed c =
 pub returns-clause-left : goal.returns-clause-left
 returns-clause-left c =
     let old = c.args.self.now in
+    let calls = kept_calls old.keeping in
     let said_is : c.in_ok-with_room.field-0.items ≡ c.crash.new.said.items = c.in_ok-with_room.ensures.items ∙ c.deref-2.ensures.value in
     let told : is_some old.keeping ≡ true = ap (λ (m : Memory). is_some m.keeping) (sym c.self.view_is) ∙ ap is_some c.in-Some.is in
-    let has = subst (λ (o : Option CrashRecord). IfSome o (HasRecord (kept_calls old.keeping) (standing old))) (stands c) (crash_recorded c.args.call (kept_calls old.keeping) (standing old) c.args.torn.now) in
-    record { left = has.left; since_then = (told, has.by); areas_are = has.areas_are; said_is = said_is ∙ has.said_is }
+    let lie : AllLieIn old.areas calls = subst (λ (m : Memory). AllLieIn m.areas (kept_calls m.keeping)) c.self.view_is c.self.invariant.kept in
+    let torn = first_torn (kept_from c.args.call calls) in
+    let by = subst (λ (o : Option CrashRecord). IfSome o (λ given. LeftBy (drop (moment_of c.args.call calls) calls) (standing old) (record { areas = given.areas; said = given.said; torn = torn })))
+    (stands c) (crash_recorded c.args.call calls (standing old) c.args.torn.now lie) in
+    (told, subst (λ (s : List ℕ). LeftBy (drop (moment_of c.args.call calls) calls) (standing old) (record { areas = areas_of c.crash.new.areas; said = s; torn = torn })) (sym said_is) by)

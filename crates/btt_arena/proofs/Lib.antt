@@ -1,0 +1,14 @@
+pub mod Moments
+pub mod Frames
+pub mod Words
+pub mod Bytes
+pub mod Undoing
+pub mod Keeping
+pub mod Entries
+pub mod Stopping
+pub mod Infos
+pub mod Layouts
+pub mod Changes
+pub mod Fresh
+pub mod Parts
+pub mod Stages

@@ -1,0 +1,13 @@
+pub mod Records
+pub mod Frames
+pub mod Kept
+pub mod Memory
+pub mod Undone
+pub mod Crashed
+pub mod InKept
+pub mod InMemory
+pub mod Layout
+pub mod Info
+pub mod Tables
+pub mod Arena
+pub mod Formatting

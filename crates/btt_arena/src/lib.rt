@@ -1,0 +1,36 @@
+//! Sectors that a stop leaves old or new, kept in the bytes of a namespace by the structures of a block translation
+//! table; and the media that holds the bytes, as a trait with a form in memory.
+#![tactic(auto)]
+
+mod formats;
+mod info;
+mod kept_writes;
+mod lanes;
+mod layout;
+mod media;
+mod memory;
+mod state;
+
+pub use formats::{FormatFault, format};
+pub use layout::Layout;
+pub use media::Media;
+pub use memory::MemoryMedia;
+pub use state::MediaState;
+
+#[cfg(test)]
+mod tests {
+    use super::{FormatFault, MemoryMedia, format};
+    use std::test::Fail;
+
+    #[test]
+    fn formats_once(rt: HostRuntime) -> Result<(), Fail> {
+        let bytes = vec![in rt.alloc(); 0; 16_777_216]?;
+        let mut media = MemoryMedia::new(rt.alloc(), bytes);
+        assert_eq!(rt; format(&mut media, 512, &[7; 16]), Ok(32_202));
+        assert_eq!(rt;
+            format(&mut media, 512, &[7; 16]),
+            Err(FormatFault::Already)
+        );
+        Ok(())
+    }
+}
