@@ -69,6 +69,9 @@ def ask(cases: Cases) -> None:
     for line, told in LINES:
         status, said = (2, ERROR) if told is None else (1, "refused words unknown\n") if told.strip() else (0, "")
         cases.nd(line, status, said)
+        if told is not None:
+            # A byte behind the line, as a word more, tells its length.
+            cases.nd([*line.split(" "), "\1"], 1, f"refused words byte at={len(told) + 1}\n")
     cases.case("words of a line")
     cases.nfit(TABLE)
     cases.area(1, area(1024))
