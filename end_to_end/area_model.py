@@ -1,5 +1,5 @@
-"""A label storage area by its bytes, written from docs/FORMATS.md: its index blocks, its kind, its labels, and the writes of
-a flip and of an initialisation. Nothing here is shared with the program that is tested.
+"""A label storage area by its bytes, written from docs/FORMATS.md: its index blocks, its kind, its labels, and the
+writes of a flip and of an initialisation. Nothing here is shared with the program that is tested.
 """
 
 from functools import cached_property, lru_cache

@@ -1,10 +1,11 @@
-"""Lines for the program of cases (`crates/nd_cases`), and what each is to be answered by the models. A case begins anew, and
-its lines are asked one after the other. Where a table tells an answer itself, the models have to agree with it.
+"""Lines for the program of cases (`crates/nd_cases`), and what each is to be answered by the models. A case begins
+anew, and its lines are asked one after the other. Where a table tells an answer itself, the models have to agree with
+it.
 """
 
 from area_model import area_of, current, geometry, is_signed, is_size, next_seq, usable_seq
 from line_model import Fault, read_line
-from platform_images import UPDATING, area, checked_block, fletcher64, free_block, label_in
+from platform_images import area, fletcher64, free_block, label_in
 from platform_model import first_fault
 from program_model import Run, SourceModel
 from rig_model import Failed, RigModel
@@ -99,8 +100,8 @@ class Cases:
     # Runs.
 
     def nd(self, words, status: int = None, said: str = None, reads: int = None, nfit_faults: int = None) -> str:
-        """Runs words, and what is said. A table may tell the status, what is said, how often the rig is read, and how often
-        the source of the NFIT fails."""
+        """Runs words, and what is said. A table may tell the status, what is said, how often the rig is read, and how
+        often the source of the NFIT fails."""
         words = words.split(" ") if isinstance(words, str) else words
         nfit, given = SourceModel(self.nfit_text, self.nfit_failing), SourceModel(self.input_text, self.input_failing)
         start = len(self.rig.said)
@@ -112,7 +113,8 @@ class Cases:
             own = [*found]
             own[0], own[5] = found[0] if reads is None else reads, found[5] if nfit_faults is None else nfit_faults
             told = f"nd {status:x} {hexed(said.encode())}{listed(own)}"
-        self.ask("nd" + "".join(" " + hexed(word.encode()) for word in words), f"nd {ended:x} {hexed(text)}{listed(found)}", told)
+        self.ask("nd" + "".join(" " + hexed(word.encode()) for word in words),
+                 f"nd {ended:x} {hexed(text)}{listed(found)}", told)
         return text.decode()
 
     def do(self, line: str, said: str = None) -> str:
@@ -257,7 +259,8 @@ class Cases:
         self.call(f"init {dimm:x}", make, told)
 
     def vacant(self, dimm: int, size: int, told: str = None) -> None:
-        self.ask(f"vacant {dimm:x} {size:x}", self.look("load", area(size)) if is_size(size) else "load none", told and f"load {told}")
+        self.ask(f"vacant {dimm:x} {size:x}", self.look("load", area(size)) if is_size(size) else "load none",
+                 told and f"load {told}")
 
     # Formats.
 
@@ -286,7 +289,8 @@ class Cases:
         slots = geometry(size, label)[1]
         made = free_block(size, place, seq, int.from_bytes(free, "little") % (1 << slots), label)
         told = made[:64] + checksum.to_bytes(8, "little") + made[72:]
-        self.ask(f"make-block {place} {seq} {size:x} {label:x} {free.hex()}", f"make-block {made.hex()}", f"make-block {told.hex()}")
+        self.ask(f"make-block {place} {seq} {size:x} {label:x} {free.hex()}", f"make-block {made.hex()}",
+                 f"make-block {told.hex()}")
 
     def bits(self, slots: int, free: bytes, first, count: int) -> None:
         own = int.from_bytes(free, "little") % (1 << slots)
@@ -307,7 +311,8 @@ class Cases:
 
     def decode(self, slot: int, text: bytes, told: str = None) -> None:
         label = label_in(text, slot)
-        self.ask(f"decode {slot:x} {text.hex()}", f"decode {label.bytes(slot).hex() if label else 'none'}", told and f"decode {told}")
+        self.ask(f"decode {slot:x} {text.hex()}", f"decode {label.bytes(slot).hex() if label else 'none'}",
+                 told and f"decode {told}")
 
     def printed_name(self, name: bytes, told: str) -> None:
         self.ask(f"name {hexed(name)}", f"name {hexed(printed(name).encode())}", f"name {hexed(told.encode())}")
@@ -366,7 +371,8 @@ def debug_name(name: bytes) -> str:
 
 
 NAMES = {
-    "init-labels": "InitLabels", "create-namespace": "Create", "destroy-namespace": "Destroy", "rename-namespace": "Rename",
+    "init-labels": "InitLabels", "create-namespace": "Create", "destroy-namespace": "Destroy",
+    "rename-namespace": "Rename",
     "release-held": "ReleaseHeld", "list": "ListSpaces", "list-regions": "ListRegions", "list-free": "ListFree",
     "list-held": "ListHeld", "to-module": "ToModule", "to-spa": "ToSpa", "to-runs": "ToRuns",
 }

@@ -3,7 +3,8 @@
 
     python3 end_to_end/check_cases.py [PROGRAM]
 
-The program is `crates/nd_cases/out/nd_cases` where none is given, and `-` prints the lines and their answers and asks nothing.
+The program is `crates/nd_cases/out/nd_cases` where none is given, and `-` prints the lines and their answers and asks
+nothing.
 """
 
 import subprocess
@@ -54,10 +55,12 @@ def main() -> int:
     said += ["nothing"] * (len(lines) - len(said))
     wrong = [(*row, answer) for row, answer in zip(cases.rows, said) if row[2] != answer]
     differences = [difference(*row) for row in wrong]
-    differences += [difference(f"{name} (table and models)", line, told, found) for name, line, told, found in cases.wrong]
+    differences += [difference(f"{name} (table and models)", line, told, found) for name, line, told,
+                    found in cases.wrong]
     print("".join(f"{text}\n" for text in differences[:SHOWN]), end="")
     names = sum(line.startswith("case ") for line in lines)
-    print(f"{names} cases, {len(lines)} answers, {len(differences)} wrong", file=sys.stderr if program == "-" else sys.stdout)
+    print(f"{names} cases, {len(lines)} answers, {len(differences)} wrong",
+          file=sys.stderr if program == "-" else sys.stdout)
     return 1 if differences or not names else 0
 
 

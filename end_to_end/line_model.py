@@ -7,7 +7,8 @@ from step_model import is_name, is_uuid
 KEYS = {
     "init-labels": ("dimm",), "create-namespace": ("region", "size", "name?", "mode?", "sector-size?", "uuid?"),
     "destroy-namespace": ("region", "namespace"), "rename-namespace": ("region", "namespace", "name"),
-    "release-held": ("dimm", "uuid"), "list": ("region?",), "list-regions": (), "list-free": ("region",), "list-held": ("dimm",),
+    "release-held": ("dimm", "uuid"), "list": ("region?",), "list-regions": (), "list-free": ("region",),
+    "list-held": ("dimm",),
     "to-module": ("region", "spa"), "to-spa": ("region", "dimm", "dpa"), "to-runs": ("region", "spa", "length"),
 }
 UNITS = {"K": 10, "M": 20, "G": 30, "T": 40}

@@ -1,5 +1,6 @@
-"""A whole run of the program over a rig, as a plain model: what it says, what it writes and with which status it ends. It is
-made of the models of lines, platforms, tables, steps and writes, and shares nothing with the program that is tested.
+"""A whole run of the program over a rig, as a plain model: what it says, what it writes and with which status it ends.
+It is made of the models of lines, platforms, tables, steps and writes, and shares nothing with the program that is
+tested.
 """
 
 from functools import lru_cache
@@ -160,7 +161,8 @@ class Run:
             after, reply = step_model.release_held(table, values["dimm"], values["uuid"])
             todo = self.writes.release_held, values["dimm"], values["uuid"]
         elif command == "create-namespace":
-            own = (values.get("uuid", own_uuid(self.seed, place)), values.get("name", b""), values.get("mode", "raw"), values.get("sector-size", 512))
+            own = (values.get("uuid", own_uuid(self.seed, place)), values.get("name", b""), values.get("mode", "raw"),
+                   values.get("sector-size", 512))
             after, reply = step_model.create_namespace(table, region, values["size"], *own)
             told = dict(word.split("=") for word in reply.split()[2:] if "=" in word)
             todo = self.writes.create_namespace, region, *own, int(told.get("offset", 0)), int(told.get("length", 0))
@@ -221,5 +223,6 @@ def shown(table, command: str, index: int, handle: int) -> str:
 def same(one, other) -> bool:
     """Whether two tables have the same modules, in whichever slots the labels are."""
     def content(table) -> dict:
-        return {handle: (module.state, module.slots, sorted(map(repr, module.labels))) for handle, module in table.modules.items()}
+        return {handle: (module.state, module.slots, sorted(map(repr, module.labels))) for handle,
+                module in table.modules.items()}
     return content(one) == content(other)

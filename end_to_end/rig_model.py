@@ -1,5 +1,5 @@
-"""The label storage areas of all modules and the output, in memory: calls that fail, calls that are kept, and what a stop
-leaves.
+"""The label storage areas of all modules and the output, in memory: calls that fail, calls that are kept, and what a
+stop leaves.
 """
 
 

@@ -1,5 +1,5 @@
-"""The order in which an accepted command writes, as a plain model over bytes: flips, sweeps, heals, recovery, and the passes
-of each command. What a command answers, and whether it is accepted, is the business of step_model.py.
+"""The order in which an accepted command writes, as a plain model over bytes: flips, sweeps, heals, recovery, and the
+passes of each command. What a command answers, and whether it is accepted, is the business of step_model.py.
 """
 
 from dataclasses import replace
@@ -99,7 +99,8 @@ class Writes:
         for at, new in area.vacant_blocks():
             self.rig.write(handle, at, new)
 
-    def create_namespace(self, index: int, number: str, name: bytes, mode: str, sector: int, offset: int, length: int) -> None:
+    def create_namespace(self, index: int, number: str, name: bytes, mode: str, sector: int, offset: int,
+                         length: int) -> None:
         region = region_at(self.table(), index)
         self.recover(region)
         parts = self.table().members(region)

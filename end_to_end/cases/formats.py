@@ -35,18 +35,21 @@ GEOMETRIES = (
 
 # The sequence numbers of the usable blocks, of which 0 is none, and the current place.
 PLACES = (
-    (3, 1, 1), (1, 3, 0), (2, 2, 1), (0, 2, 1), (0, 0, None), (1, 2, 1), (2, 3, 1), (2, 1, 0), (3, 2, 0), (1, 1, 1), (3, 3, 1),
+    (3, 1, 1), (1, 3, 0), (2, 2, 1), (0, 2, 1), (0, 0, None), (1, 2, 1), (2, 3, 1), (2, 1, 0), (3, 2, 0), (1, 1, 1),
+    (3, 3, 1),
     (1, 0, 0), (2, 0, 0), (3, 0, 0), (0, 1, 1), (0, 3, 1),
 )
 
-# The number of slots, and once the first, the last and one in the middle are used, the first free one and how many are free.
+# The number of slots, and once the first, the last and one in the middle are used, the first free one and how many are
+# free.
 BITS = (
-    (1, None, 0), (2, None, 0), (3, None, 0), (4, 1, 1), (7, 1, 4), (8, 1, 5), (9, 1, 6), (16, 1, 13), (17, 1, 14), (510, 1, 507),
+    (1, None, 0), (2, None, 0), (3, None, 0), (4, 1, 1), (7, 1, 4), (8, 1, 5), (9, 1, 6), (16, 1, 13), (17, 1, 14),
+    (510, 1, 507),
     (1020, 1, 1017), (4090, 1, 4087),
 )
 
-# Bytes that are changed in the first block of an area of 1,024 bytes with the sequence number 3, with the checksum that goes
-# with them, and the kind of the block.
+# Bytes that are changed in the first block of an area of 1,024 bytes with the sequence number 3, with the checksum that
+# goes with them, and the kind of the block.
 BLOCKS = (
     ({}, "usable 3"),
     ({15: 1}, "unsigned"),
@@ -83,7 +86,8 @@ BLOCKS = (
 
 # A label's slot, changes of the bytes of the label in slot 1, and whether they are a label in that slot.
 DECODED = (
-    (1, (), True), (0, (), False), (2, (), False), (257, (), False), (1, (0,), False), (1, (86,), False), (1, (125,), False),
+    (1, (), True), (0, (), False), (2, (), False), (257, (), False), (1, (0,), False), (1, (86,), False),
+    (1, (125,), False),
     (1, (160,), False), (1, (247,), False), (1, (248,), False), (1, (255,), False), (0, (120,), False),
 )
 
@@ -99,7 +103,8 @@ LABELS = (
 NAMES = (
     (b"", "-"), (b"-", "%2D"), (b"--", "--"), (b"-\0-", "%2D"), (b"\0db0", "-"), (b"db0", "db0"), (b"db0\0 \"", "db0"),
     (b"a b", "a%20b"), (b"100%", "100%25"), (b"\"", "%22"), (b"\x01\x1f \x21", "%01%1F%20!"),
-    (b"\x7e\x7f\x80\xab\xff", "~%7F%80%AB%FF"), (b"x" * 64, "x" * 64), (b"\xff" * 64, "%FF" * 64), (b"-a", "-a"), (b"%" * 64, "%25" * 64),
+    (b"\x7e\x7f\x80\xab\xff", "~%7F%80%AB%FF"), (b"x" * 64, "x" * 64), (b"\xff" * 64, "%FF" * 64), (b"-a", "-a"),
+    (b"%" * 64, "%25" * 64),
     (b"#$&'()*+,./:;<=>?@[\\]^_`{|}", "#$&'()*+,./:;<=>?@[\\]^_`{|}"),
 )
 
@@ -137,7 +142,8 @@ def blocks(cases: Cases) -> None:
         cases.block(0, 1024, 256, turned(first, at), "unsigned")
     for place, block, kind in ((1, first, "foreign"), (1, second, "usable 2"), (0, second, "foreign")):
         cases.block(place, 1024, 256, block, kind)
-    # What stands behind a block in its window is not looked at. One that tells a greater size is signed by all its bytes.
+    # What stands behind a block in its window is not looked at. One that tells a greater size is signed by all its
+    # bytes.
     wide = checked_block(changed(first + b"\xee" * 256, {33: 2}))
     for window, kind in ((first + b"\xee" * 768, "usable 3"), (wide, "foreign"), (wide[:-1] + b"\0", "unsigned")):
         cases.block(0, 1024, 256, window, kind)
@@ -191,5 +197,7 @@ def ask(cases: Cases) -> None:
     cases.case("checksums")
     for text, told in CHECKSUMS:
         cases.checksum(text, told)
+    # That of a whole label, worked out by hand.
+    cases.checksum_but(248, LABEL.bytes(1), 0x2160_E1C5_251C_5B9D)
     for hole, text, told in HOLES:
         cases.checksum_but(hole, text, told)

@@ -1,8 +1,10 @@
-"""What is shown of two modules with labels by hand: namespaces, free space, held labels, and each reply that a list has."""
+"""What is shown of two modules with labels by hand: namespaces, free space, held labels, and each reply that a list
+has."""
 
 from case_model import Cases
 from cases.pairs import (
-    ALL_FREE, CLASH, HELD, MARKED, MISSING, NOTHING, PART, both, create, created, free, held, label, place, release, space, spaces,
+    ALL_FREE, CLASH, HELD, MARKED, MISSING, NOTHING, PART, both, create, created, free, held, label, place, release,
+    space, spaces,
     uuid,
 )
 from platform_images import (
@@ -21,15 +23,18 @@ LOST = [label(0x13, 1, 0)]
 # The labels of two modules, and what is said of the namespaces, the free space and the held labels of both.
 STATES = (
     ("no labels", [], [], NOTHING, ALL_FREE, held(14), held(14)),
-    ("namespaces in any order of slots", *THREE, spaces(space(0x13, 0), space(0x14, 4 * MIB), space(0x15, 6 * MIB, 4 * MIB)),
+    ("namespaces in any order of slots", *THREE, spaces(space(0x13, 0), space(0x14, 4 * MIB),
+                                                        space(0x15, 6 * MIB, 4 * MIB)),
      THREE_FREE, held(11), held(11)),
-    ("a clash", [label(0x14, 0, 2 * MIB), label(0x13, 0, 0, 4 * MIB)], [label(0x13, 1, 0, 4 * MIB), label(0x14, 1, 2 * MIB)],
+    ("a clash", [label(0x14, 0, 2 * MIB), label(0x13, 0, 0, 4 * MIB)],
+     [label(0x13, 1, 0, 4 * MIB), label(0x14, 1, 2 * MIB)],
      CLASH, CLASH, held(12), held(12)),
     ("a stopped create", [label(0x13, 0, 0, flags=MARKED)], [], NOTHING, ALL_FREE, held(14), held(14)),
     ("a stopped create beside a missing area", [label(0x13, 0, 0, flags=MARKED)], None, MISSING, MISSING,
      held(13, (0x13, 0, 2 * MIB, True)), MISSING),
     ("a replaced module", [], LOST, NOTHING, HELD, held(14), held(13, (0x13, 0, 2 * MIB, False))),
-    ("a pending one", [label(0x13, 0, 0, flags=MARKED)], [label(0x13, 1, 0)], spaces(space(0x13, 0, pending="yes")), HELD, held(13),
+    ("a pending one", [label(0x13, 0, 0, flags=MARKED)], [label(0x13, 1, 0)], spaces(space(0x13, 0, pending="yes")),
+     HELD, held(13),
      held(13)),
     ("a pending one by its second label", [label(0x13, 0, 0)], [label(0x13, 1, 0, flags=MARKED)],
      spaces(space(0x13, 0, pending="yes")), HELD, held(13), held(13)),
@@ -40,10 +45,12 @@ STATES = (
     ("offsets that differ", [label(0x13, 0, 0)], [label(0x13, 1, 2 * MIB)], NOTHING,
      free((4 * MIB, PART - 4 * MIB), largest=2 * (PART - 4 * MIB)), held(13, (0x13, 0, 2 * MIB, False)),
      held(13, (0x13, 2 * MIB, 2 * MIB, False))),
-    ("positions that are exchanged", [label(0x13, 1, 0)], [label(0x13, 0, 0)], NOTHING, HELD, held(13, (0x13, 0, 2 * MIB, False)),
+    ("positions that are exchanged", [label(0x13, 1, 0)], [label(0x13, 0, 0)], NOTHING, HELD,
+     held(13, (0x13, 0, 2 * MIB, False)),
      held(13, (0x13, 0, 2 * MIB, False))),
     ("a longer first label that is marked", [label(0x13, 0, 0, 4 * MIB, MARKED)], [label(0x13, 1, 0)],
-     spaces(space(0x13, 0, 4 * MIB, pending="yes")), free((4 * MIB, PART - 4 * MIB), largest=2 * (PART - 4 * MIB)), held(13), held(13)),
+     spaces(space(0x13, 0, 4 * MIB, pending="yes")), free((4 * MIB, PART - 4 * MIB), largest=2 * (PART - 4 * MIB)),
+     held(13), held(13)),
     ("a longer first label", [label(0x13, 0, 0, 4 * MIB)], [label(0x13, 1, 0)], NOTHING,
      free((4 * MIB, PART - 4 * MIB), largest=2 * (PART - 4 * MIB)), held(13, (0x13, 0, 4 * MIB, False)),
      held(13, (0x13, 0, 2 * MIB, False))),
@@ -57,7 +64,8 @@ INITIALISED = (
 
 # Modes by the GUID of the abstraction, sector sizes and names as they are printed.
 MODES = (
-    (bytes(16), "raw"), (SECTOR, "sector"), (FSDAX, "fsdax"), (DEVDAX, "devdax"), (OTHER_MODE, "other"), (bytes(15) + b"\1", "other"),
+    (bytes(16), "raw"), (SECTOR, "sector"), (FSDAX, "fsdax"), (DEVDAX, "devdax"), (OTHER_MODE, "other"),
+    (bytes(15) + b"\1", "other"),
 )
 
 
@@ -90,15 +98,19 @@ def states(cases: Cases) -> None:
 
 
 def fits(cases: Cases) -> None:
-    """What is free is the same where it is kept within a run and where it is found anew, behind a label that is given up."""
+    """What is free is the same where it is kept within a run and where it is found anew, behind a label that is given
+    up."""
     for name, first, second, offset, space_left in (
-        ("no labels", [], [], 0, ALL_FREE), ("three namespaces", *THREE, 2 * MIB, THREE_FREE), ("a held label", [], LOST, 2 * MIB, HELD),
+        ("no labels", [], [], 0, ALL_FREE), ("three namespaces", *THREE, 2 * MIB, THREE_FREE),
+        ("a held label", [], LOST, 2 * MIB, HELD),
     ):
         for one_run in (True, False):
-            place(cases, f"fits beside {name} {'in one run' if one_run else 'in new runs'}", first + [label(0x20, 0, 0x4000_0000)], second)
+            place(cases, f"fits beside {name} {'in one run' if one_run else 'in new runs'}",
+                  first + [label(0x20, 0, 0x4000_0000)], second)
             least = min(13 - len(first), 13 - len(second))
             rows = (
-                (release(0x20), "ok released=1\n"), ("list-free region=1", space_left), (create(0x21), created(0x21, offset, least)),
+                (release(0x20), "ok released=1\n"), ("list-free region=1", space_left),
+                (create(0x21), created(0x21, offset, least)),
                 ("list-free region=2", "refused unknown-region region=2\n"),
             )
             if one_run:
@@ -119,24 +131,28 @@ def replies(cases: Cases) -> None:
     cases.case("sixteen ways")
     cases.nfit(nfit([wide]))
     for at, part in enumerate(wide.mappings):
-        own = Label(uuid(0x14), 2 * MIB, 2 * MIB, wide.cookie(), odd, MARKED * (at == 3), 16, at, 4096, abstraction=OTHER_MODE)
+        own = Label(uuid(0x14), 2 * MIB, 2 * MIB, wide.cookie(), odd, MARKED * (at == 3), 16, at, 4096,
+                    abstraction=OTHER_MODE)
         cases.area(part.handle, area(1024, [own]))
     cases.do("list", f"  namespace uuid={uuid(0x14)} name=%25%22%20%E9{'x' * 60} region=65535 mode=other sector=4096 offset=2097152"
              f" length=2097152 size=33554432 pending=yes read-only=no\nok namespaces=1\n")
     cases.do("list-free region=65535", "  free offset=0 length=2097152\n  free offset=4194304 length=12582912\nok free=2 largest=201326592\n")
     cases.do("list-regions")
     both_of = spaces(space(0x13, 0, name="%2D"), space(0x14, 2 * MIB, name="x", sector=4096, mode="sector"))
-    first, second = [list(own) for own in zip(both(0x13, 0, name=b"-"), both(0x14, 2 * MIB, name=b"x\0y", sector=4096, abstraction=SECTOR))]
+    first, second = [list(own) for own in zip(both(0x13, 0, name=b"-"),
+                                              both(0x14, 2 * MIB, name=b"x\0y", sector=4096, abstraction=SECTOR))]
     place(cases, "two namespaces", first, second)
     cases.do("list", both_of)
-    kinds = (("wrong-size", bytes(1000)), ("uninit", bytes(1024)), ("foreign", index_block(MIB, 0, 3, 0).ljust(1024, b"\0")))
+    kinds = (("wrong-size", bytes(1000)), ("uninit", bytes(1024)),
+             ("foreign", index_block(MIB, 0, 3, 0).ljust(1024, b"\0")))
     for word, text in kinds:
         place(cases, f"beside a {word} area", [], None)
         cases.area(0x101, text)
         refused = f"refused not-ready {word} dimm=0x00000101\n"
         cases.do("list-regions", "  region index=1 spa=0x0000000100000000 size=137438953472 ways=2 cookie=0x0002e2420000346b"
                  f" status={word} dimm=0x00000101\nok regions=1\n")
-        for line in ("list region=1", "list-free region=1", "list-held dimm=0x101", "create-namespace region=1 size=3M", release(0x13, 0x101)):
+        for line in ("list region=1", "list-free region=1", "list-held dimm=0x101", "create-namespace region=1 size=3M",
+                     release(0x13, 0x101)):
             cases.do(line, refused)
         cases.nd("labels . 0x101", 1, refused)
         if word != "uninit":
@@ -148,7 +164,8 @@ def replies(cases: Cases) -> None:
     flags = (LOCAL | ROLABEL | MARKED, LOCAL, ROLABEL, 0)
     place(cases, "held labels in their order", [Label(uuid(0x13), 0, 2 * MIB, 7, flags=flag) for flag in flags], [])
     cases.do("list-held dimm=1", f"{held_lines}ok held=4 spare=10\n")
-    place(cases, "the labels of a module", [label(0x13, 0, 0, name=b"db0", flags=MARKED), Label(uuid(0x14), 5, 6, 7, b'"', 0xFFFF_FFF0, 8, 9)], [])
+    place(cases, "the labels of a module", [label(0x13, 0, 0, name=b"db0", flags=MARKED),
+                                            Label(uuid(0x14), 5, 6, 7, b'"', 0xFFFF_FFF0, 8, 9)], [])
     cases.nd("labels . 1", 0, (
         f"  slot=0 uuid={uuid(0x13)} name=db0 flags=0x00000008 nlabel=2 position=0 cookie=0x0002e2420000346b dpa=0x0000000000000000"
         f" size=2097152\n  slot=1 uuid={uuid(0x14)} name=%22 flags=0xfffffff0 nlabel=8 position=9 cookie=0x0000000000000007"

@@ -30,7 +30,8 @@ def place(cases: Cases, name: str, first: list, second: list, size: int = 4096) 
         cases.area(handle, None if labels is None else area(size, labels))
 
 
-def space(last: int, offset: int, length: int = 2 * MIB, name="-", pending="no", read_only="no", mode="raw", sector=512) -> str:
+def space(last: int, offset: int, length: int = 2 * MIB, name="-", pending="no", read_only="no", mode="raw",
+          sector=512) -> str:
     return (f"  namespace uuid={uuid(last)} name={name} region=1 mode={mode} sector={sector} offset={offset} length={length}"
             f" size={2 * length} pending={pending} read-only={read_only}\n")
 
@@ -40,11 +41,13 @@ def spaces(*lines: str) -> str:
 
 
 def free(*extents: tuple, largest: int) -> str:
-    return "".join(f"  free offset={at} length={size}\n" for at, size in extents) + f"ok free={len(extents)} largest={largest}\n"
+    return "".join(f"  free offset={at} length={size}\n" for at,
+                   size in extents) + f"ok free={len(extents)} largest={largest}\n"
 
 
 def held(spare: int, *labels: tuple) -> str:
-    """What `list-held` says of labels without marks but UPDATING: the last byte of the uuid, the address, the size, the mark."""
+    """What `list-held` says of labels without marks but UPDATING: the last byte of the uuid, the address, the size, the
+    mark."""
     lines = "".join(
         f"  held uuid={uuid(last)} dpa=0x{dpa:016x} size={size} local=no read-only=no updating={'yes' if mark else 'no'}\n"
         for last, dpa, size, mark in labels

@@ -12,12 +12,12 @@ PAIR = nfit([Region(1, 4 * GIB, [Mapping(0x1, 1, 64 * GIB), Mapping(0x101, 2, 64
 SMALL = 100_000
 """Tables of more bytes are left to the checks of the whole program."""
 
-# Where a byte of the table of two modules is changed, the sum set anew or not, and the first fault.
 REGIONS = "  region index=1 spa=0x0000000100000000 size=137438953472 ways=2 cookie=0x0002e2420000346b status=missing dimm=0x00000001\nok regions=1\n"
 
 # Lines on two modules that are interleaved by lines of 4,096 bytes, and what is said.
 PLACES = (
-    (0x1_0000_3005, 0x101, 0x1005), (0x1_0000_5000, 0x101, 0x2000), (0x1_0000_0000, 0x1, 0), (0x20_FFFF_FFFF, 0x101, 64 * GIB - 1),
+    (0x1_0000_3005, 0x101, 0x1005), (0x1_0000_5000, 0x101, 0x2000), (0x1_0000_0000, 0x1, 0),
+    (0x20_FFFF_FFFF, 0x101, 64 * GIB - 1),
     (0x1_0000_1000, 0x101, 0), (0x1_0000_2000, 0x1, 0x1000), (0x1_0000_4FFF, 0x1, 0x2FFF),
 )
 LINES = (
@@ -29,7 +29,8 @@ LINES = (
      "  run dimm=0x00000001 dpa=0x0000000000001000 length=4096\n  run dimm=0x00000101 dpa=0x0000000000000000 length=8192\nok runs=2\n"),
     ("to-runs region=1 spa=0x100001000 length=0", "refused outside\n"),
     ("to-runs region=1 spa=0x20fffff000 length=4097", "refused outside\n"),
-    ("to-runs region=1 spa=0x20fffff000 length=4K", "  run dimm=0x00000101 dpa=0x0000000ffffff000 length=4096\nok runs=1\n"),
+    ("to-runs region=1 spa=0x20fffff000 length=4K",
+     "  run dimm=0x00000101 dpa=0x0000000ffffff000 length=4096\nok runs=1\n"),
     ("to-runs region=1 spa=0x100000fff length=2", "  run dimm=0x00000001 dpa=0x0000000000000fff length=1\n"
      "  run dimm=0x00000101 dpa=0x0000000000000000 length=1\nok runs=2\n"),
     ("to-runs region=1 spa=0xffffffffffffffff length=1", "refused outside\n"),
@@ -77,7 +78,8 @@ def translations(cases: Cases) -> None:
     controls, lines = [Control(1, 1), Control(2, 2)], [Lines(1, 4096, (0, 2))]
     cases.nfit(Platform([Range(1, 4 * GIB, 128 * GIB)], [first, second], controls, lines).table())
     cases.do("to-module region=1 spa=0x100000000", "refused no-translation ways-differ\n")
-    cases.nfit(Platform([Range(1, 4 * GIB, 128 * GIB)], [replace(second, offset=0, handle=1), second], controls, lines).table())
+    cases.nfit(Platform([Range(1, 4 * GIB, 128 * GIB)], [replace(second, offset=0, handle=1), second], controls,
+                        lines).table())
     cases.do("to-module region=1 spa=0x100001000", "ok dimm=0x00000101 dpa=0x0000000000000000\n")
     cases.case("three ways")
     cases.nfit(THREE.table())
@@ -100,7 +102,8 @@ def regions(cases: Cases) -> None:
             cases.nfit(platform.table())
             said = cases.do("list-regions", platform.list_regions())
             assert not rule or f"index=1 spa=0x{said.split('index=1 spa=0x')[1][:16]}" in said and f"rule={rule}\n" in said
-            for line in ("list region=1", "list-free region=1", "create-namespace region=1 size=4M", "to-module region=1 spa=0"):
+            for line in ("list region=1", "list-free region=1", "create-namespace region=1 size=4M",
+                         "to-module region=1 spa=0"):
                 cases.do(line, f"refused unusable rule={rule}\n" if rule else None)
 
 

@@ -1,14 +1,15 @@
-"""Rigs and sources in memory: which calls fail, which are kept, and what a stop leaves. What is told is worked out by hand."""
+"""Rigs and sources in memory: which calls fail, which are kept, and what a stop leaves. What is told is worked out by
+hand."""
 
 from case_model import Cases, hexed
 
 BYTES, WRITTEN = bytes(range(10, 16)), bytes((10, 11, 22, 23, 14, 15))
 
-# The call that is listed, which of the calls answer, at `+`, or fail, at `-`, what is said then, how often the calls failed,
-# those of `say` apart, the module of the last that did, and how often the rig was read.
+# The call that is listed, which of the calls answer, at `+`, or fail, at `-`, what is said then, how often the calls
+# failed, those of `say` apart, the module of the last that did, and how often the rig was read.
 #
-# The calls are a read, the size of an area, the size of none, texts of 3, 3 and 2 bytes in a room of 5, a write behind the
-# size of the area, and a read of the whole of it behind its size.
+# The calls are a read, the size of an area, the size of none, texts of 3, 3 and 2 bytes in a room of 5, a write behind
+# the size of the area, and a read of the whole of it behind its size.
 CALLS = (
     (0, "-+++-+++++", b"abcde", (1, 1), 0x101, 6),
     (1, "+-++-+++++", b"abcde", (1, 1), 0x1, 6),
@@ -23,22 +24,27 @@ CALLS = (
     (10, "++++-+++++", b"abcde", (0, 1), 0, 6),
 )
 
-# The reads that are listed, what each of them gives, and how often they fail. They are into places of 0, 1, 3, 8, 8 and 0
-# bytes, of a source of "abcdef".
+# The reads that are listed, what each of them gives, and how often they fail. They are into places of 0, 1, 3, 8, 8 and
+# 0 bytes, of a source of "abcdef".
 READS = (
     ((6, 7), ("", "a", "bcd", "ef", "", ""), 0), ((0, 0), (None, "a", "bcd", "ef", "", ""), 1),
     ((1, 6), ("", None, "abc", "def", "", ""), 1), ((3, 2), ("", "a", None, None, "bcdef", ""), 2),
-    ((4, 5), ("", "a", "bcd", "ef", None, None), 2), ((), ("", "a", "bcd", "ef", "", ""), 0), ((0, 1, 2, 3, 4, 5), (None,) * 6, 6),
+    ((4, 5), ("", "a", "bcd", "ef", None, None), 2), ((), ("", "a", "bcd", "ef", "", ""), 0),
+    ((0, 1, 2, 3, 4, 5), (None,) * 6, 6),
 )
 
-# The kept calls of the case below, and what they were; and stops of them, with the area and the bytes said that are left.
+# The kept calls of the case below, and what they were; and stops of them, with the area and the bytes said that are
+# left.
 KEPT = (
-    (0, "none"), (1, "write 101 2 0c0d 1617"), (2, "none"), (3, "write 101 3 17 21"), (4, "write 101 0 0a 28"), (5, "say 616263"),
+    (0, "none"), (1, "write 101 2 0c0d 1617"), (2, "none"), (3, "write 101 3 17 21"), (4, "write 101 0 0a 28"),
+    (5, "say 616263"),
     (6, "none"), ((1 << 64) - 1, "none"),
 )
 STOPS = (
-    (1, b"\1\2", (10, 11, 1, 2, 14, 15), b""), (3, b"\3", (10, 11, 22, 3, 14, 15), b""), (4, b"\x28", (40, 11, 22, 33, 14, 15), b""),
-    (5, b"ab", (40, 11, 22, 33, 14, 15), b"ab"), (5, b"", (40, 11, 22, 33, 14, 15), b""), (5, b"abc", (40, 11, 22, 33, 14, 15), b"abc"),
+    (1, b"\1\2", (10, 11, 1, 2, 14, 15), b""), (3, b"\3", (10, 11, 22, 3, 14, 15), b""),
+    (4, b"\x28", (40, 11, 22, 33, 14, 15), b""),
+    (5, b"ab", (40, 11, 22, 33, 14, 15), b"ab"), (5, b"", (40, 11, 22, 33, 14, 15), b""),
+    (5, b"abc", (40, 11, 22, 33, 14, 15), b"abc"),
     (1, b"\x16\x17", (10, 11, 22, 23, 14, 15), b""), (3, b"\x17", (10, 11, 22, 23, 14, 15), b""),
 )
 NO_STOPS = ((0, b"a"), (1, b"a"), (1, b"abc"), (5, b"b"), (5, b"abcd"), (6, b""), (2, b""))

@@ -1,5 +1,5 @@
-"""Whole runs: lists of lines, seeds, which calls of a rig and reads of a source fail, how often the rig is read, and stops
-within a list of lines. What is told of them is worked out by hand."""
+"""Whole runs: lists of lines, seeds, which calls of a rig and reads of a source fail, how often the rig is read, and
+stops within a list of lines. What is told of them is worked out by hand."""
 
 from case_model import Cases, hexed
 from cases.areas import OTHER, ZEROS, first, second
@@ -25,35 +25,43 @@ FAULTS = (
     ((), 64, 2, "labels . 1", 0, EMPTY), ((0,), 64, 1, "labels . 1", 4, FAILED), ((1,), 64, 2, "labels . 1", 4, FAILED),
     ((2,), 64, 2, "labels . 1", 7, ""), ((0, 1), 64, 1, "labels . 1", 7, ""), ((1, 2), 64, 2, "labels . 1", 7, ""),
     ((), 33, 2, "labels . 1", 7, ""), ((), 34, 2, "labels . 1", 0, EMPTY),
-    ((), 64, 1, "labels . 2", 1, "refused not-ready missing dimm=0x00000002\n"), ((0,), 64, 1, "labels . 2", 4, "error area dimm=0x00000002\n"),
+    ((), 64, 1, "labels . 2", 1, "refused not-ready missing dimm=0x00000002\n"),
+    ((0,), 64, 1, "labels . 2", 4, "error area dimm=0x00000002\n"),
     ((1,), 64, 1, "labels . 2", 7, ""), ((0,), 64, 0, "labels", 7, ""), ((), 64, 0, "labels", 2, "error words\n"),
 )
 
 # The call that fails, how often the rig is read, and the same of two modules of which one has no area.
 LISTS = (
     (3, 3, "do . # x", 0, ""), (9, 3, "do . list-regions", 0, REGIONS), (0, 1, "do . list", 4, FAILED),
-    (1, 2, "do . list-held dimm=1", 4, FAILED), (2, 3, "do . list-free region=1", 4, OTHER_FAILED), (9, 3, "do . list region=1", 1, MISSING),
-    (9, 3, "do . list-held dimm=1", 0, NONE_HELD), (3, 3, "do . list", 7, ""), (3, 3, "do . x", 7, ""), (9, 3, "do . x", 1, "refused words unknown\n"),
+    (1, 2, "do . list-held dimm=1", 4, FAILED), (2, 3, "do . list-free region=1", 4, OTHER_FAILED),
+    (9, 3, "do . list region=1", 1, MISSING),
+    (9, 3, "do . list-held dimm=1", 0, NONE_HELD), (3, 3, "do . list", 7, ""), (3, 3, "do . x", 7, ""),
+    (9, 3, "do . x", 1, "refused words unknown\n"),
 )
 
-# The call that fails while an area is initialised, the status, and which of the two index blocks are written then. Behind the
-# three calls that read the areas they are the area's size, three reads, two writes, and the reply.
+# The call that fails while an area is initialised, the status, and which of the two index blocks are written then.
+# Behind the three calls that read the areas they are the area's size, three reads, two writes, and the reply.
 WRITTEN = (
-    (0, 4, 0), (1, 4, 0), (2, 4, 0), (3, 4, 0), (4, 4, 0), (5, 4, 0), (6, 4, 0), (7, 4, 0), (8, 4, 1), (9, 7, 2), (10, 0, 2),
+    (0, 4, 0), (1, 4, 0), (2, 4, 0), (3, 4, 0), (4, 4, 0), (5, 4, 0), (6, 4, 0), (7, 4, 0), (8, 4, 1), (9, 7, 2),
+    (10, 0, 2),
 )
 
-# The read of the NFIT that fails, the call of the rig that fails, how often the source failed, and the same of an area without
-# index blocks. The NFIT is read by two calls.
+# The read of the NFIT that fails, the call of the rig that fails, how often the source failed, and the same of an area
+# without index blocks. The NFIT is read by two calls.
 SOURCES = (
     (0, 99, 1, INIT, 5, SOURCE), (1, 99, 1, INIT, 5, SOURCE), (0, 0, 1, INIT, 7, ""), (2, 99, 0, INIT, 0, INITIALISED),
-    (2, 0, 0, INIT, 4, FAILED), (0, 99, 1, "do . # x", 5, SOURCE), (1, 99, 1, "do . x", 5, SOURCE), (0, 99, 0, "do .", 2, "error words\n"),
-    (0, 99, 0, "run", 2, "error words\n"), (0, 99, 1, "run .", 5, SOURCE), (0, 99, 0, "labels . 1", 1, "refused not-ready uninit dimm=0x00000001\n"),
+    (2, 0, 0, INIT, 4, FAILED), (0, 99, 1, "do . # x", 5, SOURCE), (1, 99, 1, "do . x", 5, SOURCE),
+    (0, 99, 0, "do .", 2, "error words\n"),
+    (0, 99, 0, "run", 2, "error words\n"), (0, 99, 1, "run .", 5, SOURCE),
+    (0, 99, 0, "labels . 1", 1, "refused not-ready uninit dimm=0x00000001\n"),
 )
 
 # NFITs that are none, and what is said.
 TABLES = (
-    (b"", 3, "error nfit short length=0\n"), (TABLE[:39], 3, "error nfit short length=39\n"), (TABLE[:279], 3, "error nfit length told=280 length=279\n"),
-    (bytes(40), 3, "error nfit signature\n"), (TABLE[:9] + bytes(((TABLE[9] + 1) % 256,)) + TABLE[10:], 3, "error nfit checksum sum=1\n"),
+    (b"", 3, "error nfit short length=0\n"), (TABLE[:39], 3, "error nfit short length=39\n"),
+    (TABLE[:279], 3, "error nfit length told=280 length=279\n"),
+    (bytes(40), 3, "error nfit signature\n"), (TABLE[:9] + bytes(((TABLE[9] + 1) % 256,)) + TABLE[10:], 3,
+                                               "error nfit checksum sum=1\n"),
     (b"x" * 8192, 3, "error nfit signature\n"),
 )
 
@@ -61,16 +69,19 @@ TABLES = (
 RUNS = (
     ("", 0, ""), ("\n\n# x\n", 0, ""), ("list", 0, NONE), ("list-free\n", 1, "refused words missing key=region\n"),
     ("list\n\nlist-held dimm=1\n", 0, NONE + NONE_HELD), ("x\n# x\nlist", 1, "refused words unknown\n" + NONE),
-    ("list\r\n", 1, "refused words byte at=4\n"), ("list-held dimm=1\n \0\n", 1, NONE_HELD + "refused words byte at=1\n"),
+    ("list\r\n", 1, "refused words byte at=4\n"), ("list-held dimm=1\n \0\n", 1,
+                                                   NONE_HELD + "refused words byte at=1\n"),
     ("list\nlist", 0, NONE + NONE), ("x".ljust(4097) + "\nlist", 1, "refused words too-long\n" + NONE),
     (f"list\n{CREATE}\nlist\n", 0, NONE + CREATED + LISTED),
-    (f"{CREATE}\ndestroy-namespace region=1 namespace=db0\nlist\n", 0, f"{CREATED}ok destroyed uuid={uuid(0x13)}\n{NONE}"),
+    (f"{CREATE}\ndestroy-namespace region=1 namespace=db0\nlist\n", 0,
+     f"{CREATED}ok destroyed uuid={uuid(0x13)}\n{NONE}"),
 )
 
-# How many bytes the input has, the read of it that fails, how often the areas are read, the status, and what is said. Up to
-# 4,096 bytes are read at once.
+# How many bytes the input has, the read of it that fails, how often the areas are read, the status, and what is said.
+# Up to 4,096 bytes are read at once.
 INPUTS = (
-    (1_048_576, 999, 4, 1, "refused words too-long\n"), (1_048_577, 999, 0, 5, "error limit input\n"), (4_097, 1, 0, 5, "error source input\n"),
+    (1_048_576, 999, 4, 1, "refused words too-long\n"), (1_048_577, 999, 0, 5, "error limit input\n"),
+    (4_097, 1, 0, 5, "error source input\n"),
     (4_096, 2, 4, 0, ""), (4_096, 1, 0, 5, "error source input\n"), (0, 0, 0, 5, "error source input\n"),
 )
 
@@ -80,7 +91,8 @@ SEEDS = (
     (1, 4, "cbb21cb2-75b1-5657-831a-a9df31933706"),
 )
 
-# A list of lines on two modules, the first without index blocks. The fourth line makes a namespace, and the last one is blank.
+# A list of lines on two modules, the first without index blocks. The fourth line makes a namespace, and the last one is
+# blank.
 INPUT = "init-labels dimm=1\n\n# none\ncreate-namespace region=1 size=4M name=db0\nlist\ninit-labels dimm=1\n"
 OWN = "cbb21cb2-75b1-5657-831a-a9df31933706"
 SAID = (
@@ -122,7 +134,8 @@ def rigs(cases: Cases) -> None:
     modules(cases, "initialised again", ZEROS * 4, None)
     cases.area(2, OTHER * 4)
     for line, status, said in (
-        (INIT, 0, INITIALISED), ("do . init-labels dimm=0x1", 1, "refused already-ready dimm=0x00000001\n"), ("labels . 1", 0, EMPTY), ("do . # x", 0, ""),
+        (INIT, 0, INITIALISED), ("do . init-labels dimm=0x1", 1, "refused already-ready dimm=0x00000001\n"),
+        ("labels . 1", 0, EMPTY), ("do . # x", 0, ""),
     ):
         cases.nd(line, status, said)
         cases.dump(1, READY + ZEROS * 2)
@@ -166,11 +179,13 @@ def inputs(cases: Cases) -> None:
             cases.seed(seed)
             cases.do("create-namespace region=1 size=4M", said)
     # The call that fails, and what is said of two lists. Four calls read the areas.
-    for call, status, said in ((0, 4, FAILED), (1, 4, FAILED), (2, 4, OTHER_FAILED), (3, 4, OTHER_FAILED), (4, 7, ""), (5, 7, NONE_HELD), (6, 0, NONE_HELD * 2)):
+    for call, status, said in ((0, 4, FAILED), (1, 4, FAILED), (2, 4, OTHER_FAILED), (3, 4, OTHER_FAILED), (4, 7, ""),
+                               (5, 7, NONE_HELD), (6, 0, NONE_HELD * 2)):
         both(cases, f"two lists and a fault at call {call}")
         cases.fail_rig(call)
         cases.run("list-held dimm=1\nlist-held dimm=0x101\n", status, said)
-    # The fifth write of a create fails, behind four calls that read the areas: the first pass was done, so the namespace stands.
+    # The fifth write of a create fails, behind four calls that read the areas: the first pass was done, so the
+    # namespace stands.
     both(cases, "a create that fails in its second pass")
     cases.fail_rig(8)
     for line, said in (
@@ -185,7 +200,8 @@ def inputs(cases: Cases) -> None:
     cases.do("list", PENDING)
 
 
-# The call of a create within which all stops, whether its new bytes stand then or zeros, and what is said of the namespaces.
+# The call of a create within which all stops, whether its new bytes stand then or zeros, and what is said of the
+# namespaces.
 CRASHES = ((4, False, NONE), (7, False, NONE), (7, True, PENDING), (9, True, PENDING), (11, True, LISTED))
 
 
@@ -226,8 +242,8 @@ def stopped(cases: Cases, call: int, torn: bytes) -> None:
 
 
 def holds(cases: Cases) -> None:
-    """Where the reply to the create was said the namespace stands, and where that of the command before it was not, it does
-    not."""
+    """Where the reply to the create was said the namespace stands, and where that of the command before it was not, it
+    does not."""
     cases.counts()
     said = len(cases.rig.said)
     text = cases.nd("do . list")

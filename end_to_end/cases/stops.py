@@ -1,8 +1,8 @@
-"""Commands that are stopped at each write, or of which each call fails in turn, over 1, 2, 3 and 16 ways. The platform is a
-region of these ways, and another region of one module with a pending namespace and a slot of junk.
+"""Commands that are stopped at each write, or of which each call fails in turn, over 1, 2, 3 and 16 ways. The platform
+is a region of these ways, and another region of one module with a pending namespace and a slot of junk.
 
-At each stop the lists are asked and the bytes of the areas are looked at: over 16 ways those of the module that is written to
-and of another one by turns, else all.
+At each stop the lists are asked and the bytes of the areas are looked at: over 16 ways those of the module that is
+written to and of another one by turns, else all.
 """
 
 from case_model import Cases, unsigned
@@ -59,10 +59,11 @@ def release(ways: int) -> str:
     return f"release-held dimm=1 uuid={EARLIER}"
 
 
-# Where an earlier create was stopped: the write, counted from the last one on, and whether it left the old bytes, the new ones,
-# or these unsigned.
+# Where an earlier create was stopped: the write, counted from the last one on, and whether it left the old bytes, the
+# new ones, or these unsigned.
 EARLIERS = {
-    "never": None, "at the last sweep": lambda ways: (4 * ways + 1, "old"), "ahead of the last flip of the first pass": lambda ways: (2 * ways + 2, "new"),
+    "never": None, "at the last sweep": lambda ways: (4 * ways + 1, "old"),
+    "ahead of the last flip of the first pass": lambda ways: (2 * ways + 2, "new"),
     "behind that flip": lambda ways: (2 * ways + 1, "new"), "within the second pass": lambda ways: (ways, "unsigned"),
     "not at all": lambda ways: (1, "new"),
 }
@@ -71,8 +72,8 @@ LEFT = {"old": lambda old, new: old, "new": lambda old, new: new, "unsigned": la
 NONE, ONE, PENDING = (), ((EARLIER, "no"),), ((EARLIER, "yes"),)
 NEW, AFTER = ((LATER, "no"),), ((EARLIER, "no"), (LATER, "no"))
 
-# The command, the slots in use in each module of region 1 without a label, where an earlier create was stopped, by how many of
-# the last writes the table is the one behind the command, and the namespaces before it and behind it.
+# The command, the slots in use in each module of region 1 without a label, where an earlier create was stopped, by how
+# many of the last writes the table is the one behind the command, and the namespaces before it and behind it.
 ROWS = (
     (create, 0, "never", lambda ways: 2 * ways, NONE, NEW),
     (create, 0x2001, "never", lambda ways: 2 * ways, NONE, NEW),
@@ -95,7 +96,8 @@ def told(ways: int, spaces: tuple, new_name: bool) -> str:
     """What is said where region 1 has these namespaces, one behind the other, and its modules hold no label."""
     lines = "".join(
         f"  namespace uuid={number} name={'new' if new_name else NAMES[number]} region=1 mode=raw sector=512 offset={place * LENGTH}"
-        f" length={LENGTH} size={ways * LENGTH} pending={pending} read-only=no\n" for place, (number, pending) in enumerate(spaces)
+        f" length={LENGTH} size={ways * LENGTH} pending={pending} read-only=no\n" for place,
+        (number, pending) in enumerate(spaces)
     )
     taken = len(spaces) * LENGTH
     return (f"{lines}ok namespaces={len(spaces)}\n  free offset={taken} length={PART - taken}\nok free=1 largest={ways * (PART - taken)}\n"
@@ -131,7 +133,8 @@ def place(cases: Cases, name: str, ways: int, stored: dict) -> None:
 
 
 def left(ways: int, used: int, earlier: str) -> dict:
-    """The areas after an earlier create was stopped. They are those of the models, which a case of that create looks at."""
+    """The areas after an earlier create was stopped. They are those of the models, which a case of that create looks
+    at."""
     if EARLIERS[earlier] is None:
         return areas(ways, used)
     scratch = Cases()
@@ -147,7 +150,8 @@ def left(ways: int, used: int, earlier: str) -> dict:
 class Stops:
     """A command that is done on areas whose writes are kept, and is stopped then."""
 
-    def __init__(self, cases: Cases, name: str, ways: int, stored: dict, command: str, behind: int, before: str, after: str):
+    def __init__(self, cases: Cases, name: str, ways: int, stored: dict, command: str, behind: int, before: str,
+                 after: str):
         self.cases, self.ways, self.command, self.behind, self.before, self.after = cases, ways, command, behind, before, after
         place(cases, f"{name} over {ways} ways", ways, stored)
         cases.keep()
@@ -208,12 +212,13 @@ def changes(cases: Cases) -> None:
         for command, used, earlier, behind, before, after in ROWS:
             stored = left(ways, used, earlier)
             name = f"{command.__name__} with {used:x} in use where a create was stopped {earlier}"
-            Stops(cases, name, ways, stored, command(ways), behind(ways), told(ways, before, False), told(ways, after, command is rename))
+            Stops(cases, name, ways, stored, command(ways), behind(ways), told(ways, before, False),
+                  told(ways, after, command is rename))
 
 
 def others(cases: Cases) -> None:
-    """A module that is initialised where the others hold labels of a stopped create, which are dead then; and the label of a
-    namespace that is given up, whose last module was replaced."""
+    """A module that is initialised where the others hold labels of a stopped create, which are dead then; and the label
+    of a namespace that is given up, whose last module was replaced."""
     for ways in WAYS:
         stored = {**left(ways, 0, "ahead of the last flip of the first pass"), handle(ways - 1): bytes(SIZE)}
         Stops(cases, "init", ways, stored, init(ways), 1, told_before_init(ways), told(ways, NONE, False))
