@@ -7,7 +7,7 @@ from area_model import area_of, current, geometry, is_signed, is_size, next_seq,
 from line_model import Fault, read_line
 from platform_images import area, fletcher64, free_block, label_in
 from platform_model import first_fault
-from program_model import Run, SourceModel
+from program_model import Run, SourceModel, folder_of
 from rig_model import Failed, RigModel
 from step_model import ABSTRACTIONS, is_uuid
 from table_model import printed
@@ -116,6 +116,12 @@ class Cases:
         self.ask("nd" + "".join(" " + hexed(word.encode()) for word in words),
                  f"nd {ended:x} {hexed(text)}{listed(found)}", told)
         return text.decode()
+
+    def folder(self, line: str, told: str) -> None:
+        """The folder that words name."""
+        words = line.split(" ")
+        asked = "dir" + "".join(" " + hexed(word.encode()) for word in words)
+        self.ask(asked, f"dir {hexed(folder_of(words).encode())}", f"dir {hexed(told.encode())}")
 
     def do(self, line: str, said: str = None) -> str:
         """Runs the form `do` with a line."""

@@ -51,6 +51,13 @@ def read_source(source: SourceModel, name: str) -> bytes:
     return text
 
 
+def folder_of(words: list) -> str:
+    """The second word without a first `--`, or the folder where the program runs."""
+    dashes = words.index("--") if "--" in words else len(words)
+    words = words[:dashes] + words[dashes + 1 :]
+    return words[1] if len(words) > 1 else "."
+
+
 def form_of(words: list) -> tuple:
     """What words ask for: a form and what goes with it, or the form `error`."""
     dashes = words.index("--") if "--" in words else len(words)

@@ -42,6 +42,13 @@ LINES = (
     ("", None),
 )
 
+# The folder that these words name, where it is not `pm`.
+FOLDERS = {
+    "labels": ".", "labels . 1": ".", "labels -x 1": "-x", "labels -- -x 1": "-x", "labels - 1": "-", "-- labels -- 1": "--",
+    "-- -- labels . 1": "labels", "--help": ".", "-h": ".", "run": ".", "run -- -x": "-x", "run -x": "-x", "run -": "-", "do": ".",
+    "do -x y": "-x", "do -- -x y": "-x", "-- -- do pm x": "do", "do labels pm 1": "labels", "": ".",
+}
+
 # The same words around a line that tells its pieces: with one space between each two, a name, and a byte that is none
 # of text.
 SPACED = (
@@ -77,3 +84,6 @@ def ask(cases: Cases) -> None:
     cases.area(1, area(1024))
     for line, status, said in SPACED:
         cases.nd(line, status, said)
+    cases.case("folders")
+    for line, _ in (*LABELS, *RUNS, *LINES):
+        cases.folder(line, FOLDERS.get(line, "pm"))

@@ -9,6 +9,8 @@ mod extents;
 #[cfg(test)]
 mod lists;
 #[cfg(test)]
+mod nfit_fields;
+#[cfg(test)]
 mod nfits;
 #[cfg(test)]
 mod numbers;

@@ -85,7 +85,7 @@ pub(crate) fn nfit(alloc: Global, structures: &[u8]) -> Result<Vec<u8>, AllocErr
 }
 
 /// Puts the checksum byte with which all bytes of an NFIT sum to 0 modulo 256, where there is a place for it.
-fn put_sum(bytes: &mut [u8]) {
+pub(crate) fn put_sum(bytes: &mut [u8]) {
     if bytes.len() < 10 {
         return;
     }

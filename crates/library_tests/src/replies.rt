@@ -50,3 +50,18 @@ fn sizes(rt: HostRuntime) -> Result<(), Fail> {
     assert!(rt; said.as_slice().ends_with(end));
     Ok(())
 }
+
+/// A name of 64 bytes, of which some are printed by their numbers, and the last address of 64 bits.
+#[test]
+fn names_and_addresses(rt: HostRuntime) -> Result<(), Fail> {
+    let mut name = [b'x'; 64];
+    name[..4].copy_from_slice(b"%\" \xe9");
+    let uuid = [0x0f; 16];
+    let said = reply_text(rt.alloc(), &Reply::Renamed { uuid, name })?;
+    let text = "ok renamed uuid=0f0f0f0f-0f0f-0f0f-0f0f-0f0f0f0f0f0f \
+        name=%25%22%20%E9xxxxxxxxxxxxxxxxxxxxxxxxxxxxxxxxxxxxxxxxxxxxxxxxxxxxxxxxxxxx\n";
+    assert_eq!(rt; said.as_slice(), text.as_bytes());
+    let said = reply_text(rt.alloc(), &Reply::Spa { spa: u64::MAX })?;
+    assert_eq!(rt; said.as_slice(), b"ok spa=0xffffffffffffffff\n".as_slice());
+    Ok(())
+}

@@ -3,7 +3,7 @@
 use crate::fault::Fault;
 use crate::setting::Setting;
 use crate::words::{bytes, number, short_number, text};
-use nd_top::nd_top;
+use nd_top::{dir, nd_top};
 use rig_trait::{Kept, MemoryRig, Rig, Source};
 use std::alloc::Global;
 use std::mem;
@@ -13,6 +13,7 @@ impl Setting {
     pub(crate) fn run(&mut self, name: &str, operands: &[&str]) -> Result<Option<String>, Fault> {
         Ok(Some(match name {
             "nd" => self.run_words(operands)?,
+            "dir" => self.folder(operands)?,
             "dump" => self.dump(operands)?,
             "kept" => self.kept(operands)?,
             "stop" => self.stop(operands)?,
@@ -38,6 +39,13 @@ impl Setting {
         Ok(format!(in alloc;
             "nd {status:x} {said} {reads:x} {faults:x} {say_faults:x} {failed:x} {calls:x} {nfit:x} {input:x}"
         )?)
+    }
+
+    /// `dir WORD ...`: the folder that these words name.
+    fn folder(&self, operands: &[&str]) -> Result<String, Fault> {
+        let alloc = self.alloc;
+        let words = words_of(alloc, operands)?;
+        Ok(format!(in alloc; "dir {}", text(alloc, dir(&words).as_bytes())?)?)
     }
 
     /// `dump DIMM`: the bytes of an area.
