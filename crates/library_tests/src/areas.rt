@@ -4,8 +4,8 @@ ghost use Rattle.std.specs.Prelude.{◌+◌, ◌≤◌, length};
 
 use std::alloc::{AllocError, Global};
 
-/// The index blocks of an area that was initialised, up to their bitmaps (docs/FORMATS.md). The checksums were worked out
-/// by hand.
+/// The index blocks of an area that was initialised, up to their bitmaps (docs/FORMATS.md), with checksums that were
+/// worked out by hand.
 const FIRST: &[u8; 73] = b"NAMESPACE_INDEX\0\0\0\0\x01\x03\0\0\0\0\0\0\0\0\0\0\0\0\x01\0\0\0\0\0\0\
 \0\x01\0\0\0\0\0\0\0\x02\0\0\0\0\0\0\x02\0\0\0\x01\0\x02\0\x33\x3a\x32\xd8\xa7\x83\x93\x27\x03";
 

@@ -101,8 +101,8 @@ fn before_and_behind_a_create(rt: HostRuntime) -> Result<(), Fail> {
     Ok(())
 }
 
-/// The third of the writes of a create fails, behind four calls that read the areas. The session asks nothing of any rig
-/// then.
+/// The third of the writes of a create fails, behind four calls that read the areas. Then the session asks nothing of
+/// any rig.
 #[test]
 fn spent(rt: HostRuntime) -> Result<(), Fail> {
     let alloc = rt.alloc();

@@ -110,8 +110,7 @@ impl Setting {
         Ok(())
     }
 
-    /// `area DIMM SIZE [AT:BYTES ...]`: an area of zeros with bytes over them, in a new rig with the other areas as they
-    /// stand.
+    /// `area DIMM SIZE [AT:BYTES ...]`: an area of zeros with bytes over them, in a new rig with the other areas.
     fn put_area(&mut self, operands: &[&str]) -> Result<(), Fault> {
         let [dimm, size, parts @ ..] = operands else {
             return Err(Fault::Refused);
