@@ -84,7 +84,7 @@ pub(crate) fn kind(alloc: Global, operands: &[&str]) -> Result<String, Fault> {
     let place = place_of(place)?;
     let geometry = geometry_of(size, label)?;
     let window = bytes(alloc, window)?;
-    if window.len() > WINDOW_BYTES as usize || window.len() < geometry.block as usize {
+    if window.len() > WINDOW_BYTES || window.len() < geometry.block as usize {
         return Err(Fault::Refused);
     }
     Ok(match read_block(&window, place, &geometry) {
@@ -103,7 +103,7 @@ pub(crate) fn make(alloc: Global, operands: &[&str]) -> Result<String, Fault> {
     let seq = sequence_number(seq)?;
     let geometry = geometry_of(size, label)?;
     let free = bytes(alloc, free)?;
-    if free.len() as u64 * 8 < u64::from(geometry.slots) {
+    if free.len() > WINDOW_BYTES || 8 * free.len() < geometry.slots as usize {
         return Err(Fault::Refused);
     }
     let mut block = vec![in alloc; 0xff; geometry.block as usize]?;
