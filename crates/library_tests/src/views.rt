@@ -84,18 +84,21 @@ fn spare(spare: u32) -> [(u32, AreaState); 2] {
 }
 
 #[test]
-fn before_and_behind_a_create(rt: HostRuntime) -> Result<(), Fail> {
+fn before_a_create(rt: HostRuntime) -> Result<(), Fail> {
+    let alloc = rt.alloc();
+    let mut rig = both(alloc)?;
+    let view = start(alloc, &mut rig)?.view(alloc)?;
+    assert_eq!(rt; shown(&view), Some((Status::Ready, 0, 1, spare(2))));
+    Ok(())
+}
+
+#[test]
+fn behind_a_create(rt: HostRuntime) -> Result<(), Fail> {
     let alloc = rt.alloc();
     let mut rig = both(alloc)?;
     let mut session = start(alloc, &mut rig)?;
-    let view = session.view(alloc)?;
-    assert_eq!(rt; shown(&view), Some((Status::Ready, 0, 1, spare(2))));
-    if session
-        .apply(alloc, &mut rig, &CREATE, Uuid::nil())
-        .is_err()
-    {
-        return Err(Fail::from("no create"));
-    }
+    let created = session.apply(alloc, &mut rig, &CREATE, Uuid::nil());
+    assert!(rt; created.is_ok());
     let view = session.view(alloc)?;
     assert_eq!(rt; shown(&view), Some((Status::Ready, 1, 1, spare(1))));
     Ok(())
