@@ -3,6 +3,7 @@ It is made of the models of lines, platforms, tables, steps and writes, and shar
 tested.
 """
 
+from dataclasses import replace
 from functools import lru_cache
 
 import step_model
@@ -228,8 +229,15 @@ def shown(table, command: str, index: int, handle: int) -> str:
 
 
 def same(one, other) -> bool:
-    """Whether two tables have the same modules, in whichever slots the labels are."""
-    def content(table) -> dict:
-        return {handle: (module.state, module.slots, sorted(map(repr, module.labels))) for handle,
-                module in table.modules.items()}
+    """Whether two tables have the same modules, in whichever slots the labels are and whatever stands behind the ends of
+    names."""
     return content(one) == content(other)
+
+
+def content(table) -> dict:
+    return {handle: (module.state, module.slots, sorted(map(named, module.labels)))
+            for handle, module in table.modules.items()}
+
+
+def named(label) -> str:
+    return repr(replace(label, name=label.name.split(b"\0")[0]))

@@ -21,6 +21,14 @@ def module_of(text: bytes) -> Module:
     return Module(area.state, area.slots if area.state == "uninit" else 0)
 
 
+def differs(label: Label, wanted: dict) -> bool:
+    """Whether a label has other values. Names are compared up to their first zero byte."""
+    own = {field: getattr(label, field) for field in HEALED}
+    return any(own[field] != value for field, value in wanted.items() if field != "name") or (
+        own["name"].split(b"\0")[0] != wanted["name"].split(b"\0")[0]
+    )
+
+
 class Writes:
     """The areas of a rig as a command changes them."""
 
@@ -69,7 +77,7 @@ class Writes:
         wanted = {field: getattr(self.own(first, number)[1], field) for field in HEALED}
         for handle in others:
             label = self.own(handle, number)[1]
-            if label.flags & UPDATING or any(getattr(label, field) != value for field, value in wanted.items()):
+            if label.flags & UPDATING or differs(label, wanted):
                 self.change(handle, number, flags=label.flags & ~UPDATING, **wanted)
         label = self.own(first, number)[1]
         if label.flags & UPDATING:
