@@ -86,7 +86,8 @@ impl Area {
             → OnErr result (FailedFlip (R.areas rig.old) (R.areas rig.new) (R.said rig.old) self.old.dimm
             (after_put self.old label.now replaces)) }
         // All bytes but those of the other index block and of the slot are as before, at the return and at a stop.
-        ensures bytes { IsTold R.Shown rig.old → WritesFlipAlone R.Shown rig.old rig.new self.old (Some (first_slot self.old)) }
+        ensures bytes { IsTold R.Shown rig.old
+            → WritesFlipAlone R.Shown rig.old rig.new self.old (Some (first_slot self.old)) }
         ensures writes_only { WritesTo self.old.dimm R.Shown rig.old rig.new }
         ensures cause { FailsAt self.old.dimm R.Shown rig.old rig.new (is_err result) }
         ensures reads { R.reads rig.new ≡ R.reads rig.old }

@@ -76,7 +76,8 @@ impl Area {
         ensures flips { IsTold R.Shown rig.old → IsShown self.now (R.areas rig.old)
             → Flips R.Shown rig.old rig.new self.now next.now
             (with_label label.now.slot label.now (with_bits self.now next.now)) result }
-        ensures bytes { IsTold R.Shown rig.old → WritesFlipAlone R.Shown rig.old rig.new self.now (Some label.now.slot) }
+        ensures bytes { IsTold R.Shown rig.old
+            → WritesFlipAlone R.Shown rig.old rig.new self.now (Some label.now.slot) }
         ensures writes_only { WritesTo self.now.dimm R.Shown rig.old rig.new }
         ensures cause { FailsAt self.now.dimm R.Shown rig.old rig.new (is_err result) }
         ensures reads { R.reads rig.new ≡ R.reads rig.old }

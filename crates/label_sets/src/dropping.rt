@@ -35,8 +35,9 @@ impl Sets {
 
     /// Frees the labels of a namespace, all of which are marked as being changed and none of which is read-only, by
     /// position and one flip each. By the first flip the namespace is gone; by the last no module of the region has a
-    /// label with its uuid, and each has a free slot more. It needs the platform whose state this is, and takes no memory. A stop at any moment leaves areas that stand for the state before, or for that without the
-    /// namespace. `Err` where the rig failed: what is kept is then what the flips before the failure made.
+    /// label with its uuid, and each has a free slot more. It needs the platform whose state this is, and takes no
+    /// memory. A stop at any moment leaves areas that stand for the state before, or for that without the namespace.
+    /// `Err` where the rig failed: what is kept is then what the flips before the failure made.
     pub fn drop_all<R: Rig>(
         &mut self,
         rig: &mut R,

@@ -149,10 +149,11 @@ impl MemoryRig {
         torn: &[u8],
     ) -> Result<Option<MemoryRig>, AllocError>
         ensures crashed { IfOk result (λ given. given ≡ crashed self.now call torn.now) }
-        // A stop since the call began might have left these areas and these bytes said, with the call as its torn write,
-        // where it is a write.
+        // A stop since the call began might have left these areas and these bytes said, with the call as its torn
+        // write, where it is a write.
         ensures left { IfOk result (λ given. IfSome given (IsLeft ⟦<MemoryRig as Shown>⟧ self.now
-            (moment_of call (kept_calls self.now.keeping)) (first_torn (kept_from call (kept_calls self.now.keeping))))) }
+            (moment_of call (kept_calls self.now.keeping))
+            (first_torn (kept_from call (kept_calls self.now.keeping))))) }
     {
         let Some(keeping) = &self.keeping else {
             return Ok(None);
