@@ -20,7 +20,7 @@ use Rattle.btt_arena.specs.Tables.{Half, Map, block_in, block_named, completed, 
 use Rattle.btt_arena.proofs.Layouts.{Fits, fits_of}
 
 -- a word of a range
-word_of_range : (bytes : List ℕ) (from n k : ℕ) → k + 4 ≤ n → number_at 4 bytes (from + k) ≡ number_at 4 (range bytes from n) k
+pub word_of_range : (bytes : List ℕ) (from n k : ℕ) → k + 4 ≤ n → number_at 4 bytes (from + k) ≡ number_at 4 (range bytes from n) k
 word_of_range bytes from n k fits = rw (number_at-take 4 k n (drop from bytes) fits, drop-drop k from bytes) refl
 
 zero_word : (n k : ℕ) → k + 4 ≤ n → number_at 4 (replicate n 0) k ≡ 0

@@ -12,3 +12,4 @@ pub mod Changes
 pub mod Fresh
 pub mod Parts
 pub mod Stages
+pub mod LaneBytes

@@ -11,3 +11,4 @@ pub mod Info
 pub mod Tables
 pub mod Arena
 pub mod Formatting
+pub mod Opening

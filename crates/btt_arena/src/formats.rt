@@ -85,11 +85,12 @@ fn write_parts<M: Media>(
 }
 
 /// The arena in a media of `size` bytes: that of the info block at 0, where it is right, else that of the other one.
-fn find_arena<M: Media>(media: &mut M, size: u64) -> Result<Option<Layout>, rig_trait::Failed>
+pub fn find_arena<M: Media>(media: &mut M, size: u64) -> Result<Option<Layout>, rig_trait::Failed>
     requires size { IsTrue (is_size size) }
     requires told { IsTold M.MediaState media.old → length (M.bytes media.old) ≡ size }
     ensures arena { IsTold M.MediaState media.old → IfOk result (λ arena. arena ≡ arena_in (M.bytes media.old)) }
     ensures layout { IfOk result (λ arena. IfSome arena IsLayout) }
+    ensures size { IfOk result (λ arena. IfSome arena (λ a. a.size ≡ size)) }
     ensures reads_only { Reads M.MediaState media.old media.new }
     ensures cause { Fails M.MediaState media.old media.new (is_err result) }
 {

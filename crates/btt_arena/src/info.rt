@@ -30,6 +30,7 @@ pub fn told_layout(size: u64, block: &[u8]) -> Option<Layout>
     requires block { length block.now ≡ 4096 }
     ensures told { result ≡ told_layout size block.now }
     ensures layout { IfSome result IsLayout }
+    ensures size { IfSome result (λ a. a.size ≡ size) }
 {
     let small = Layout::of(size, 512);
     if is_right(&small, block) {

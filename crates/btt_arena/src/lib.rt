@@ -9,17 +9,19 @@ mod lanes;
 mod layout;
 mod media;
 mod memory;
+mod opening;
 mod state;
 
 pub use formats::{FormatFault, format};
-pub use layout::Layout;
+pub use layout::{Layout, is_size};
 pub use media::Media;
 pub use memory::MemoryMedia;
+pub use opening::{Arena, ArenaFault};
 pub use state::MediaState;
 
 #[cfg(test)]
 mod tests {
-    use super::{FormatFault, MemoryMedia, format};
+    use super::{Arena, FormatFault, MemoryMedia, format};
     use std::test::Fail;
 
     #[test]
@@ -30,6 +32,10 @@ mod tests {
         assert_eq!(rt;
             format(&mut media, 512, &[7; 16]),
             Err(FormatFault::Already)
+        );
+        let opened = Arena::open(&mut media);
+        assert!(rt;
+            matches!(opened, Ok(arena) if arena.blocks() == 32_202 && arena.sector() == 512)
         );
         Ok(())
     }
