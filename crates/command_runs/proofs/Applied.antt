@@ -17,11 +17,11 @@ use Rattle.label_area.specs.Inits.{IsVacant, LeftByInit}
 use Rattle.label_area.specs.Modules.{area_kind}
 use Rattle.label_table.specs.Tables.{State, state}
 use Rattle.module_flips.specs.Stops.{LeftIn, WritesAmong}
-use Rattle.module_labels.specs.Labels.{Labels}
-use Rattle.module_labels.specs.declared.kind.AreaKind.{AreaKind}
-use Rattle.module_labels.specs.declared.kind.AreaKind.TheVariants as kinds
+use Rattle.label_codec.specs.ModuleLabels.{Labels}
+use Rattle.label_codec.specs.declared.kind.AreaKind.{AreaKind}
+use Rattle.label_codec.specs.declared.kind.AreaKind.TheVariants as kinds
 use Rattle.region_map.specs.declared.platform.Platform.{Platform}
-use Rattle.region_sets.specs.Modules.{dimm_of, size_in}
+use Rattle.region_labels.specs.Modules.{dimm_of, size_in}
 use Rattle.namespace_core.specs.Commands.{Does, HasAreas, IsBeforeOrAfter, LeavesArea, SaysIfKnown, has_module, is_change, is_init, may_change, written_by}
 use Rattle.namespace_core.specs.Faults.{HasRunCause, IsRunAmong, IsRunAt, spent_after}
 use Rattle.namespace_core.specs.Found.{DoesAnyhow}

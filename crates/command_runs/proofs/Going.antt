@@ -16,10 +16,10 @@ use Rattle.cmd_words.specs.declared.commands.Command.{Command}
 use Rattle.cmd_words.specs.Lines.{command_in}
 use Rattle.label_table.specs.Tables.{State, state}
 use Rattle.module_flips.specs.Flips.{IsSizedIn}
-use Rattle.module_labels.specs.Labels.{Labels}
-use Rattle.namespace_staging.proofs.Flips.{sized-on}
+use Rattle.label_codec.specs.ModuleLabels.{Labels}
+use Rattle.namespace_passes.proofs.StagedFlips.{sized-on}
 use Rattle.region_map.specs.declared.platform.Platform.{Platform}
-use Rattle.region_sets.specs.Modules.{dimm_of, size_in}
+use Rattle.region_labels.specs.Modules.{dimm_of, size_in}
 use Rattle.namespace_core.specs.Commands.{Does, SaysIfKnown}
 use Rattle.namespace_core.specs.Found.{DoesAnyhow}
 use Rattle.namespace_core.specs.Sessions.{IsCurrent, StoredSession, slots_of, state_of}

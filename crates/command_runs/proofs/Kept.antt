@@ -20,8 +20,8 @@ use Rattle.label_area.specs.Flips.{is_among}
 use Rattle.label_area.specs.Inits.{IsVacant, first_block, initialised, layout_of, second_block, slots_of, with_blocks}
 use Rattle.label_area.specs.Modules.{area_kind}
 use Rattle.label_area.proofs.Initialised.{vacant-initialised}
-use Rattle.module_labels.specs.declared.kind.AreaKind.TheVariants.{Ready, Uninit}
-use Rattle.module_labels.specs.Labels.{Module}
+use Rattle.label_codec.specs.declared.kind.AreaKind.TheVariants.{Ready, Uninit}
+use Rattle.label_codec.specs.ModuleLabels.{Module}
 use Rattle.region_map.specs.declared.platform.Platform.{Platform}
 use Rattle.namespace_core.specs.declared.faults.RunFault.TheVariants.{Area}
 use Rattle.namespace_core.specs.Commands.{is_init, written_by}

@@ -11,8 +11,8 @@ use Rattle.rig_trait.proofs.Frames.{reading}
 use Rattle.rig_trait.proofs.Moments.{and_a_call, joined, weakened}
 use Rattle.label_table.specs.Tables.{table}
 use Rattle.module_flips.specs.Stored.{StandsIn, stored_labels}
-use Rattle.region_sets.specs.declared.modules.LoadedModule.{LoadedModule}
-use Rattle.region_sets.specs.Modules.{dimm_of, is_of, size_in}
+use Rattle.region_labels.specs.declared.modules.LoadedModule.{LoadedModule}
+use Rattle.region_labels.specs.Modules.{dimm_of, is_of, size_in}
 use Rattle.label_sets.specs.Init.{slots_at, slots_by_size}
 use Rattle.label_sets.specs.Sets.{StoredSets}
 use Rattle.namespace_core.specs.Sessions.{IsCurrent, StoredSession, state_of, stored_slots}

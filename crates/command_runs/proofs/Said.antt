@@ -12,7 +12,7 @@ use Rattle.cmd_words.specs.declared.commands.Command.{Command}
 use Rattle.label_area.proofs.FairRecords.{IsFair-same}
 use Rattle.label_area.specs.Inits.{IsVacant, slots_of}
 use Rattle.label_area.specs.Modules.{area_kind}
-use Rattle.module_labels.specs.declared.kind.AreaKind.TheVariants.{Uninit}
+use Rattle.label_codec.specs.declared.kind.AreaKind.TheVariants.{Uninit}
 use Rattle.region_map.specs.declared.platform.Platform.{Platform}
 use Rattle.report_json.specs.Texts.{is_one_line, reply_text}
 use Rattle.report_json.proofs.Ends.{ended}

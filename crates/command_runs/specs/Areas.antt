@@ -11,7 +11,7 @@ use Rattle.label_area.specs.Fair.{IsFair}
 use Rattle.label_area.specs.Flips.{is_among}
 use Rattle.label_area.specs.Inits.{IsVacant, initialised, slots_of}
 use Rattle.label_area.specs.Modules.{area_kind}
-use Rattle.module_labels.specs.declared.kind.AreaKind.TheVariants.{Uninit}
+use Rattle.label_codec.specs.declared.kind.AreaKind.TheVariants.{Uninit}
 use Rattle.region_map.specs.declared.platform.Platform.{Platform}
 use Rattle.cmd_words.specs.declared.commands.Command.{Command}
 use Rattle.cmd_words.specs.Lines.{command_in}

@@ -5,7 +5,7 @@ use Rattle.view_types.specs.declared.refusal.Refusal.TheVariants.{Words}
 use Rattle.view_types.specs.declared.reply.Reply.{Reply}
 use Rattle.view_types.specs.declared.reply.Reply.TheVariants.{Refused}
 use Rattle.view_types.specs.declared.word_fault.WordFault.{WordFault}
-use Rattle.module_labels.specs.Labels.{Labels}
+use Rattle.label_codec.specs.ModuleLabels.{Labels}
 use Rattle.region_map.specs.declared.platform.Platform.{Platform}
 use Rattle.label_table.specs.Tables.{State, state}
 use Rattle.cmd_words.specs.declared.commands.Command.{Command}

@@ -8,7 +8,7 @@ use Rattle.rig_trait.specs.Records.{CrashRecord}
 use Rattle.cmd_words.specs.declared.commands.Command.{Command}
 use Rattle.label_area.specs.Fair.{IsFair}
 use Rattle.label_table.specs.Tables.{State}
-use Rattle.region_sets.specs.Modules.{dimm_of, size_in}
+use Rattle.region_labels.specs.Modules.{dimm_of, size_in}
 use Rattle.namespace_core.specs.Commands.{has_module}
 use Rattle.namespace_core.specs.Sessions.{IsCurrent, StoredSession, state_of}
 use Rattle.namespace_core.specs.declared.faults.RunFault.{RunFault}

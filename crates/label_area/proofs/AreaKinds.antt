@@ -10,7 +10,7 @@ use Rattle.index_block.specs.declared.geometry.Place.{Place}
 use Rattle.index_block.specs.declared.geometry.Place.TheVariants.{First, Second}
 use Rattle.index_block.specs.Blocks.{has_fields, is_signed, is_usable, kind_of, seq_of}
 use Rattle.index_block.specs.Current.{current_place, is_followed_by}
-use Rattle.module_labels.specs.declared.kind.AreaKind.TheVariants.{Ready, Foreign, Uninit}
+use Rattle.label_codec.specs.declared.kind.AreaKind.TheVariants.{Ready, Foreign, Uninit}
 use Rattle.label_area.specs.declared.blocks.BlockKinds.{BlockKinds}
 use Rattle.label_area.specs.declared.blocks.Current.{Current}
 use Rattle.label_area.specs.Blocks.{current_by, is_block, kind_among, kind_by_blocks, seq_in, usable_at}

@@ -13,7 +13,7 @@ use Rattle.index_block.specs.Written.{block_text}
 use Rattle.index_block.proofs.Behind.{kind_of-window}
 use Rattle.index_block.proofs.Sizes.{HasSizes}
 use Rattle.index_block.proofs.Usable.{kind_of-block, length-block}
-use Rattle.module_labels.specs.declared.kind.AreaKind.TheVariants.{Uninit}
+use Rattle.label_codec.specs.declared.kind.AreaKind.TheVariants.{Uninit}
 use Rattle.label_area.specs.Blocks.{current_in, kind_at, seq_in, window_at}
 use Rattle.label_area.specs.Inits.{IsVacant}
 use Rattle.label_area.specs.Modules.{area_kind}

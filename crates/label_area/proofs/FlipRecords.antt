@@ -17,8 +17,8 @@ use Rattle.index_block.specs.Current.{IsSeq, current_place, is_followed_by}
 use Rattle.index_block.specs.Geometry.{geometry_of, other_place, place_offset}
 use Rattle.index_block.specs.Written.{block_text}
 use Rattle.index_block.proofs.Sizes.{HasSizes, sizes_of}
-use Rattle.module_labels.specs.Labels.{Module}
-use Rattle.module_labels.specs.declared.kind.AreaKind.TheVariants.{Ready}
+use Rattle.label_codec.specs.ModuleLabels.{Module}
+use Rattle.label_codec.specs.declared.kind.AreaKind.TheVariants.{Ready}
 use Rattle.label_area.specs.declared.blocks.Current.{Current}
 use Rattle.label_area.specs.Blocks.{current_in, kind_at, place_window, seq_in, window_at}
 use Rattle.label_area.specs.Flips.{FailedFlip, LeftByFlip, Standing, standing_at, standing_of}

@@ -15,7 +15,7 @@ use Rattle.index_block.specs.declared.geometry.Place.{Place}
 use Rattle.index_block.specs.Bitmap.{is_free_in}
 use Rattle.index_block.specs.Geometry.{other_place, place_offset}
 use Rattle.index_block.specs.Written.{block_text}
-use Rattle.module_labels.specs.declared.kind.AreaKind.TheVariants.{Ready}
+use Rattle.label_codec.specs.declared.kind.AreaKind.TheVariants.{Ready}
 use Rattle.label_area.specs.declared.flip_writes.Next.{Next}
 use Rattle.label_area.specs.FlipWrites.{Flips, IsKeptAfter, IsNext, with_bits}
 use Rattle.label_area.specs.Flips.{FailedFlip, LeftByFlip, Standing, after_free, is_among, shown_by, standing_of}

@@ -19,7 +19,7 @@ use Rattle.index_block.specs.Geometry.{geometry_of}
 use Rattle.index_block.proofs.Behind.{is_free_in-ones}
 use Rattle.index_block.proofs.Sizes.{HasSizes, sizes_of}
 use Rattle.index_block.proofs.Usable.{length-block}
-use Rattle.module_labels.specs.declared.kind.AreaKind.TheVariants.{Uninit, WrongSize}
+use Rattle.label_codec.specs.declared.kind.AreaKind.TheVariants.{Uninit, WrongSize}
 use Rattle.label_area.specs.Blocks.{current_in, window_at}
 use Rattle.label_area.specs.Fair.{IsBlockWrite, IsFair}
 use Rattle.label_area.specs.Inits.{IsInOrder, IsVacant, IsWrittenInOrder, LeftByInit, all_free, first_block, initialised, layout_of, second_block, slots_of, with_blocks}

@@ -10,7 +10,7 @@ use Rattle.rig_trait.specs.TwoWrites.{LeftByTwo}
 use Rattle.rig_trait.proofs.Frames.{reading}
 use Rattle.rig_trait.proofs.Moments.{joined, weakened}
 use Rattle.index_block.specs.declared.geometry.Geometry.{Geometry}
-use Rattle.module_labels.specs.declared.kind.AreaKind.TheVariants.{Uninit}
+use Rattle.label_codec.specs.declared.kind.AreaKind.TheVariants.{Uninit}
 use Rattle.label_area.specs.Inits.{IsInOrder, IsWrittenInOrder, LeftByInit, first_block, layout_of, second_block}
 use Rattle.label_area.specs.Modules.{area_kind}
 use Rattle.label_area.proofs.Initialised.{left_by_init, stored_of}

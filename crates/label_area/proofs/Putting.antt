@@ -22,7 +22,7 @@ use Rattle.index_block.specs.Written.{block_text}
 use Rattle.index_block.proofs.Sizes.{HasSizes, sizes_of}
 use Rattle.label_codec.specs.declared.label.Label.{Label}
 use Rattle.label_codec.specs.Labels.{label_of}
-use Rattle.module_labels.specs.declared.kind.AreaKind.TheVariants.{Ready}
+use Rattle.label_codec.specs.declared.kind.AreaKind.TheVariants.{Ready}
 use Rattle.label_area.specs.declared.flip_writes.Next.{Next}
 use Rattle.label_area.specs.FlipWrites.{Flips, IsKeptAfter, IsNext, with_bits}
 use Rattle.label_area.specs.Flips.{FailedFlip, LeftByFlip, Standing, after_free, at_slot, is_among, replaced, shown_by, standing_at, standing_of, with_label}

@@ -8,7 +8,7 @@ use Rattle.index_block.specs.declared.geometry.Geometry.{Geometry}
 use Rattle.index_block.specs.declared.geometry.Place.{Place}
 use Rattle.index_block.specs.declared.geometry.Place.TheVariants.{First, Second}
 use Rattle.index_block.specs.Geometry.{FitsIn, geometry_of}
-use Rattle.module_labels.specs.declared.kind.AreaKind.TheVariants.{Ready}
+use Rattle.label_codec.specs.declared.kind.AreaKind.TheVariants.{Ready}
 use Rattle.label_area.specs.declared.blocks.BlockKinds.{BlockKinds}
 use Rattle.label_area.specs.declared.blocks.Current.{Current}
 use Rattle.label_area.specs.declared.layouts.Layouts.{Layouts}

@@ -16,7 +16,7 @@ use Rattle.index_block.specs.Geometry.{geometry_of, other_place}
 use Rattle.index_block.proofs.Behind.{is_free_in-window}
 use Rattle.index_block.proofs.Windows.{is_usable-take}
 use Rattle.label_codec.specs.declared.label.Label.{Label}
-use Rattle.module_labels.specs.declared.kind.AreaKind.TheVariants.{Ready}
+use Rattle.label_codec.specs.declared.kind.AreaKind.TheVariants.{Ready}
 use Rattle.label_area.specs.declared.blocks.Current.{Current}
 use Rattle.label_area.specs.Blocks.{current_in, place_window, seq_in}
 use Rattle.label_area.specs.Flips.{Standing, standing_of, used_by}

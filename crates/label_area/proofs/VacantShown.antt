@@ -11,7 +11,7 @@ use Rattle.index_block.specs.declared.geometry.Place.TheVariants.{First}
 use Rattle.index_block.specs.Bitmap.{is_free_in}
 use Rattle.index_block.specs.Geometry.{FitsIn, geometry_of}
 use Rattle.label_codec.specs.declared.label.Label.{Label}
-use Rattle.module_labels.specs.declared.kind.AreaKind.TheVariants.{Ready, Uninit}
+use Rattle.label_codec.specs.declared.kind.AreaKind.TheVariants.{Ready, Uninit}
 use Rattle.label_area.specs.declared.blocks.Current.{Current}
 use Rattle.label_area.specs.Blocks.{current_block}
 use Rattle.label_area.specs.Inits.{IsVacant, first_block, initialised, second_block}

@@ -1,7 +1,7 @@
 -- What a fault of an area says of the kind of the area, and which faults are the rig's.
 use Rattle.std.specs.Prelude.{ℕ, Bool, true, false, Option, Some, None, Result, Ok, Err}
-use Rattle.module_labels.specs.declared.kind.AreaKind.{AreaKind}
-use Rattle.module_labels.specs.declared.kind.AreaKind.TheVariants.{Missing, WrongSize, Ready, Foreign, Uninit}
+use Rattle.label_codec.specs.declared.kind.AreaKind.{AreaKind}
+use Rattle.label_codec.specs.declared.kind.AreaKind.TheVariants.{Missing, WrongSize, Ready, Foreign, Uninit}
 use Rattle.label_area.specs.declared.init.InitFault.{InitFault}
 use Rattle.label_area.specs.declared.init.InitFault.TheVariants as init
 use Rattle.label_area.specs.declared.load.AreaFault.{AreaFault}

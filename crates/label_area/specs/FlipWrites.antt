@@ -8,7 +8,7 @@ use Rattle.rig_trait.specs.Frames.{LeavesOnly}
 use Rattle.index_block.specs.Bitmap.{is_free_in}
 use Rattle.index_block.specs.Current.{IsSeq, is_followed_by}
 use Rattle.index_block.specs.Geometry.{other_place}
-use Rattle.module_labels.specs.declared.kind.AreaKind.TheVariants.{Ready}
+use Rattle.label_codec.specs.declared.kind.AreaKind.TheVariants.{Ready}
 use Rattle.label_area.specs.declared.flip_writes.Next.{Next}
 use Rattle.label_area.specs.Flips.{FailedFlip, LeftByFlip, Standing}
 use Rattle.label_area.specs.LoadedAreas.{LoadedArea}

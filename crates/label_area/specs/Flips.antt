@@ -9,8 +9,8 @@ use Rattle.rig_trait.specs.Areas.{Areas, OthersKept, size_in, written}
 use Rattle.rig_trait.specs.Records.{CrashRecord, IsTorn}
 use Rattle.index_block.specs.Bitmap.{free_count, is_free_in}
 use Rattle.label_codec.specs.declared.label.Label.{Label}
-use Rattle.module_labels.specs.declared.kind.AreaKind.TheVariants.{Ready}
-use Rattle.module_labels.specs.Labels.{Module}
+use Rattle.label_codec.specs.declared.kind.AreaKind.TheVariants.{Ready}
+use Rattle.label_codec.specs.ModuleLabels.{Module}
 use Rattle.label_area.specs.declared.blocks.Current.{Current}
 use Rattle.label_area.specs.Blocks.{current_block}
 use Rattle.label_area.specs.Fair.{IsFair}

@@ -3,7 +3,7 @@ use Rattle.std.specs.Prelude.{◌≡◌, ◌<◌, ℕ, List, Some, Result, Ok, E
 use Rattle.std.specs.FinMap.{get}
 use Rattle.rig_trait.specs.Areas.{Areas, size_in}
 use Rattle.index_block.specs.Bitmap.{is_free_in}
-use Rattle.module_labels.specs.declared.kind.AreaKind.TheVariants.{Ready}
+use Rattle.label_codec.specs.declared.kind.AreaKind.TheVariants.{Ready}
 use Rattle.label_area.specs.declared.load.AreaFault.{AreaFault}
 use Rattle.label_area.specs.Blocks.{current_block}
 use Rattle.label_area.specs.Faults.{load_kind, load_size}

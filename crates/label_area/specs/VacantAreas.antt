@@ -4,7 +4,7 @@ use Rattle.std.specs.FinMap.{get}
 use Rattle.rig_trait.specs.Areas.{Areas, size_in}
 use Rattle.index_block.specs.Bitmap.{is_free_in}
 use Rattle.index_block.specs.Geometry.{geometry_of}
-use Rattle.module_labels.specs.declared.kind.AreaKind.TheVariants.{Uninit}
+use Rattle.label_codec.specs.declared.kind.AreaKind.TheVariants.{Uninit}
 use Rattle.label_area.specs.Inits.{initialised}
 use Rattle.label_area.specs.LoadedAreas.{LoadedArea, size_of}
 use Rattle.label_area.specs.Loads.{IsShown}

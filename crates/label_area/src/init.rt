@@ -4,7 +4,7 @@ ghost use Rattle.std.specs.Prelude.{◌≡◌, ◌≢◌, Err, Some, IfErr, IfOk
 ghost use Rattle.std.specs.Result.{is_err};
 ghost use Rattle.std.specs.FinMap.{get};
 ghost use Rattle.index_block.specs.Geometry.{FitsIn, IsGeometry};
-ghost use Rattle.module_labels.specs.declared.kind.AreaKind.TheVariants.{Uninit};
+ghost use Rattle.label_codec.specs.declared.kind.AreaKind.TheVariants.{Uninit};
 ghost use Rattle.rig_trait.specs.Areas.{area, size_in};
 ghost use Rattle.rig_trait.specs.Frames.{FailsAt, IsTold, LeavesOnly, Reads, WritesTo};
 ghost use Rattle.rig_trait.specs.TwoWrites.{LeftByTwo};
@@ -20,7 +20,7 @@ use crate::area::Area;
 use crate::blocks::{BITMAP_BYTES, BlockKinds};
 use crate::layouts::Layouts;
 use index_block::{BlockKind, Geometry, Place, WINDOW_BYTES, read_block, write_block};
-use module_labels::AreaKind;
+use label_codec::AreaKind;
 use rig_trait::Rig;
 
 /// A bitmap with all slots free.

@@ -10,7 +10,7 @@ ghost use Rattle.label_area.specs.Faults.{is_load_failed, load_kind, load_size};
 use crate::area::Area;
 use crate::blocks::BlockKinds;
 use crate::layouts::Layouts;
-use module_labels::AreaKind;
+use label_codec::AreaKind;
 use rig_trait::Rig;
 use std::alloc::{AllocError, Global};
 

@@ -1,3 +1,4 @@
 pub mod Ascii
 pub mod Slots
 pub mod Written
+pub mod Counting

@@ -2,9 +2,11 @@
 #![tactic(auto)]
 
 mod flags;
+mod kind;
 mod label;
 mod names;
 
 pub use flags::{LOCAL, READ_ONLY, UPDATING};
+pub use kind::AreaKind;
 pub use label::{LABEL_LEN, Label, read_label, write_label};
 pub use names::name_text;

@@ -9,8 +9,8 @@ use Rattle.label_codec.specs.declared.label.Label.{Label}
 use Rattle.label_codec.specs.Names.{printed_name}
 use Rattle.label_area.specs.declared.blocks.Current.{Current}
 use Rattle.label_area.specs.LoadedAreas.{LoadedArea}
-use Rattle.module_labels.specs.declared.kind.AreaKind.TheVariants.{Ready}
-use Rattle.module_labels.specs.Labels.{Module}
+use Rattle.label_codec.specs.declared.kind.AreaKind.TheVariants.{Ready}
+use Rattle.label_codec.specs.ModuleLabels.{Module}
 use Rattle.report_json.specs.Numbers.{address_text, handle_text, uuid_text}
 
 -- the line of a live label: which it is, what it is in its set, and which part of the module it names

@@ -8,17 +8,17 @@ use Rattle.std.proofs.lemmas.List.Elements.{AllZip-get_or}
 use Rattle.std.proofs.lemmas.List.Sorted.{length_permutation}
 use Rattle.extent_alloc.specs.Free.{FreeSpace}
 use Rattle.label_codec.specs.declared.label.Label.{Label}
-use Rattle.module_labels.specs.Labels.{Labels, count, number, one}
+use Rattle.label_codec.specs.ModuleLabels.{Labels, count, number, one}
 use Rattle.region_map.specs.declared.platform.Region.{Region}
 use Rattle.label_table.specs.Wholes.{any_label}
 use Rattle.uuid_index.specs.declared.entry.Entry.{Entry}
 use Rattle.uuid_index.specs.Labels.{IsIndex, entries_below, entries_from, entries_of, entry_at, live_entries}
-use Rattle.region_sets.specs.declared.modules.LoadedModule.{LoadedModule}
-use Rattle.region_sets.specs.declared.region.RegionLabels.{RegionLabels}
-use Rattle.region_sets.specs.Fates.{region_in}
-use Rattle.region_sets.specs.Modules.{dimm_of, is_of, labels_in, module_in, module_or_missing}
-use Rattle.region_sets.specs.Regions.{IsOver, handles}
-use Rattle.region_changes.specs.Rooms.{KeepsRegion}
+use Rattle.region_labels.specs.declared.modules.LoadedModule.{LoadedModule}
+use Rattle.region_labels.specs.declared.region.RegionLabels.{RegionLabels}
+use Rattle.region_labels.specs.Fates.{region_in}
+use Rattle.region_labels.specs.Modules.{dimm_of, is_of, labels_in, module_in, module_or_missing}
+use Rattle.region_labels.specs.Regions.{IsOver, handles}
+use Rattle.region_labels.specs.Rooms.{KeepsRegion}
 use Rattle.label_sets.specs.Room.{HasRoom}
 
 -- how many live labels a module has

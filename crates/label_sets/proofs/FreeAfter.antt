@@ -14,12 +14,12 @@ use Rattle.label_table.specs.Belonging.{IsDisjoint}
 use Rattle.label_table.specs.Division.{AreFreeExtents, part_size}
 use Rattle.label_table.specs.Spaces.{Space}
 use Rattle.label_table.specs.Tables.{table}
-use Rattle.region_sets.specs.declared.modules.LoadedModule.{LoadedModule}
-use Rattle.region_sets.specs.declared.region.RegionLabels.{RegionLabels}
-use Rattle.region_sets.specs.Fates.{platform_of, region_in, with_regions}
-use Rattle.region_sets.specs.Modules.{labels_in}
-use Rattle.region_changes.specs.Spaces.{GainsNamespace, IsAlone, LosesNamespace}
-use Rattle.region_changes.proofs.FreeSpace.{extents-kept, gained-elsewhere, gained-extents, lost-elsewhere, lost-extents}
+use Rattle.region_labels.specs.declared.modules.LoadedModule.{LoadedModule}
+use Rattle.region_labels.specs.declared.region.RegionLabels.{RegionLabels}
+use Rattle.region_labels.specs.Fates.{platform_of, region_in, with_regions}
+use Rattle.region_labels.specs.Modules.{labels_in}
+use Rattle.region_labels.specs.GainedSpaces.{GainsNamespace, IsAlone, LosesNamespace}
+use Rattle.region_labels.proofs.FreeSpace.{extents-kept, gained-elsewhere, gained-extents, lost-elsewhere, lost-extents}
 use Rattle.label_sets.specs.Free.{ChangesAt, ChangesKnown, GainsRange, LosesRange}
 use Rattle.label_sets.specs.Kept.{AllFree, IsFree, IsKnownFree}
 

@@ -8,7 +8,7 @@ use Rattle.view_types.specs.declared.states.Status.{Status}
 use Rattle.std.specs.Option.{option_and_then}
 use Rattle.std.specs.Prelude.{IfNone, IfSome, IsSome, slice_get}
 use Rattle.view_types.specs.Intervals.{IsFirstFit, NoneFits, greatest_aligned, is_free}
-use Rattle.module_labels.specs.Labels.{Labels}
+use Rattle.label_codec.specs.ModuleLabels.{Labels}
 use Rattle.region_map.specs.declared.platform.Platform.{Platform}
 use Rattle.region_map.specs.declared.platform.Region.{Region}
 use Rattle.region_map.specs.Platforms.{region_at}
@@ -17,17 +17,17 @@ use Rattle.label_table.specs.Statuses.{status}
 use Rattle.label_table.proofs.Partition.{maximal-one}
 use Rattle.label_table.specs.Division.{is_common_free}
 use Rattle.extent_alloc.specs.Free.{FreeSpace}
-use Rattle.region_sets.specs.declared.modules.LoadedModule.{LoadedModule}
-use Rattle.region_sets.specs.declared.region.RegionLabels.{RegionLabels}
-use Rattle.region_sets.specs.Fates.{platform_of, region_in}
-use Rattle.region_sets.specs.Modules as modules
-use Rattle.region_sets.specs.Statuses.{shown_status}
+use Rattle.region_labels.specs.declared.modules.LoadedModule.{LoadedModule}
+use Rattle.region_labels.specs.declared.region.RegionLabels.{RegionLabels}
+use Rattle.region_labels.specs.Fates.{platform_of, region_in}
+use Rattle.region_labels.specs.Modules as modules
+use Rattle.region_labels.specs.Statuses.{shown_status}
 use Rattle.label_sets.specs.declared.sets.Sets.TheInside.{Inside}
 use Rattle.label_sets.specs.Free.{space_at}
 use Rattle.label_sets.specs.Kept.{IsFree, IsKept, IsKnownFree, shown}
 use Rattle.label_sets.specs.Largest.{IsLargestOf, TellsLargest}
 use Rattle.label_sets.specs.Lookups.{AreFreeOf, FitsFirst, FitsFirstIn, IsFitIn, IsKeptRegion, TellsFree, in_region}
-use Rattle.region_sets.specs.Regions.{IsOver}
+use Rattle.region_labels.specs.Regions.{IsOver}
 use Rattle.label_sets.specs.Sets.{StoredSets, labels_in, platform_in}
 use Rattle.label_sets.specs.Views.{IsPlaceOf}
 

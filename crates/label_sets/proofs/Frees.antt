@@ -3,8 +3,8 @@ use Rattle.std.proofs.Common.{◌≡◌, ℕ, ◌+◌, ◌<◌, ◌++◌, ◌∷
 use Rattle.std.proofs.lemmas.Bool.{cases_lt}
 use Rattle.std.proofs.lemmas.List.{get_or_append_left, get_or_push, get_or_read}
 use Rattle.extent_alloc.specs.Free.{FreeSpace}
-use Rattle.region_sets.specs.declared.modules.LoadedModule.{LoadedModule}
-use Rattle.region_sets.specs.declared.region.RegionLabels.{RegionLabels}
+use Rattle.region_labels.specs.declared.modules.LoadedModule.{LoadedModule}
+use Rattle.region_labels.specs.declared.region.RegionLabels.{RegionLabels}
 use Rattle.label_sets.specs.Kept.{IsFree}
 
 pub free-more : (modules : List LoadedModule) (regions : List RegionLabels) (old new : List FreeSpace) (free : FreeSpace) (n : ℕ) (kept : RegionLabels) → length old ≡ n → n < length regions → kept ≡ get_or regions n kept

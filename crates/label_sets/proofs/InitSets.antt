@@ -10,14 +10,14 @@ use Rattle.rig_trait.specs.Frames.{LeavesOnly, Reads}
 use Rattle.rig_trait.proofs.Frames.{reading}
 use Rattle.rig_trait.proofs.Moments.{weakened}
 use Rattle.view_types.specs.declared.states.AreaState.TheVariants as state_is
-use Rattle.module_labels.specs.Flips.{with_module}
-use Rattle.module_labels.specs.Labels.{Labels}
+use Rattle.label_codec.specs.ModuleChanges.{with_module}
+use Rattle.label_codec.specs.ModuleLabels.{Labels}
 use Rattle.label_table.specs.Settling.{IsInitialised}
 use Rattle.label_table.specs.Tables.{state}
-use Rattle.region_sets.specs.declared.modules.LoadedModule.{LoadedModule}
-use Rattle.region_sets.specs.declared.modules.ModuleArea.{ModuleArea}
-use Rattle.region_sets.specs.declared.modules.ModuleArea.TheVariants.{Missing, WrongSize, Uninit, Foreign, Ready}
-use Rattle.region_sets.specs.Modules.{EachOnce, dimm_of, is_of, size_in, size_of_area}
+use Rattle.region_labels.specs.declared.modules.LoadedModule.{LoadedModule}
+use Rattle.region_labels.specs.declared.modules.ModuleArea.{ModuleArea}
+use Rattle.region_labels.specs.declared.modules.ModuleArea.TheVariants.{Missing, WrongSize, Uninit, Foreign, Ready}
+use Rattle.region_labels.specs.Modules.{EachOnce, dimm_of, is_of, size_in, size_of_area}
 use Rattle.module_flips.specs.Stored.{StandsIn, stored_labels}
 use Rattle.module_flips.specs.Stops.{IsOneOf, LeftIn}
 use Rattle.module_flips.proofs.Standing.{stands}

@@ -18,9 +18,9 @@ use Rattle.index_block.specs.declared.geometry.Geometry.{Geometry}
 use Rattle.index_block.specs.Bitmap.{is_free_in}
 use Rattle.index_block.specs.Geometry.{geometry_of}
 use Rattle.label_codec.specs.declared.label.Label.{Label}
-use Rattle.module_labels.specs.declared.kind.AreaKind.TheVariants as kind
-use Rattle.module_labels.specs.Flips.{with_module}
-use Rattle.module_labels.specs.Labels.{IsBounded, Labels, Module, is_ready}
+use Rattle.label_codec.specs.declared.kind.AreaKind.TheVariants as kind
+use Rattle.label_codec.specs.ModuleChanges.{with_module}
+use Rattle.label_codec.specs.ModuleLabels.{IsBounded, Labels, Module, is_ready}
 use Rattle.label_area.specs.Blocks.{current_block}
 use Rattle.label_area.specs.Flips.{LeftByFlip, Standing, standing_of}
 use Rattle.label_area.specs.Inits.{IsVacant, LeftByInit, initialised, slots_of}
@@ -39,13 +39,13 @@ use Rattle.label_table.proofs.Equations.{by_index-same}
 use Rattle.label_table.proofs.Initialising.{init-pending, init-table}
 use Rattle.uuid_index.specs.declared.entry.Entry.{Entry}
 use Rattle.uuid_index.specs.Labels.{IsIndex, entries_below, entries_from, entries_of, entry_at}
-use Rattle.region_sets.specs.declared.modules.LoadedModule.{LoadedModule}
-use Rattle.region_sets.specs.declared.modules.ModuleArea.TheVariants.{Uninit, Ready}
-use Rattle.region_sets.specs.declared.region.RegionLabels.{RegionLabels}
-use Rattle.region_sets.specs.Modules.{EachOnce, dimm_of, is_of, labels_in, module_in, module_of, size_in, size_of_area, without_labels}
-use Rattle.region_sets.specs.Regions.{IsOver, handles}
-use Rattle.region_changes.specs.Changes.{IsChangedAt, dimm_at}
-use Rattle.region_changes.proofs.ChangedModules.{changed-set, dimm-at, handles-same, labels-after, labels-at, once-after, over-after}
+use Rattle.region_labels.specs.declared.modules.LoadedModule.{LoadedModule}
+use Rattle.region_labels.specs.declared.modules.ModuleArea.TheVariants.{Uninit, Ready}
+use Rattle.region_labels.specs.declared.region.RegionLabels.{RegionLabels}
+use Rattle.region_labels.specs.Modules.{EachOnce, dimm_of, is_of, labels_in, module_in, module_of, size_in, size_of_area, without_labels}
+use Rattle.region_labels.specs.Regions.{IsOver, handles}
+use Rattle.region_labels.specs.Changes.{IsChangedAt, dimm_at}
+use Rattle.region_labels.proofs.ChangedModules.{changed-set, dimm-at, handles-same, labels-after, labels-at, once-after, over-after}
 use Rattle.module_flips.specs.Flips.{HasLabelsInUse, IsOwn}
 use Rattle.module_flips.specs.Stored.{StandsIn, StoredAs}
 use Rattle.module_flips.specs.Stops.{IsOneOf, LeftIn}

@@ -11,12 +11,12 @@ use Rattle.label_table.specs.Statuses.{AreaNotReady, Clash, RegionReady, RegionS
 use Rattle.label_table.specs.Tables.{ChangesAt, State, state, table, without_namespace}
 use Rattle.label_table.proofs.ListTests.{Contains-get_or, both, eq_same, eq_true, never, some_is}
 use Rattle.label_table.proofs.StatusLaws.{ready-without, status-elsewhere, status-kept}
-use Rattle.region_sets.specs.declared.modules.LoadedModule.{LoadedModule}
-use Rattle.region_sets.specs.declared.region.RegionLabels.{RegionLabels}
-use Rattle.region_sets.specs.Fates.{platform_of, region_in}
-use Rattle.region_sets.specs.Modules.{labels_in}
-use Rattle.region_sets.specs.Statuses.{shown_status}
-use Rattle.namespace_dropping.specs.Dropping.{IsBeforeOrWithout}
+use Rattle.region_labels.specs.declared.modules.LoadedModule.{LoadedModule}
+use Rattle.region_labels.specs.declared.region.RegionLabels.{RegionLabels}
+use Rattle.region_labels.specs.Fates.{platform_of, region_in}
+use Rattle.region_labels.specs.Modules.{labels_in}
+use Rattle.region_labels.specs.Statuses.{shown_status}
+use Rattle.namespace_passes.specs.Dropping.{IsBeforeOrWithout}
 use Rattle.label_sets.specs.declared.sets.Sets.TheInside.{Inside}
 use Rattle.label_sets.specs.Healing.{CanHealIn}
 use Rattle.label_sets.specs.Kept.{IsKnownReady, IsReadyIn, shown}

@@ -8,7 +8,7 @@ use Rattle.std.proofs.lemmas.Option.{IfSome_then}
 use Rattle.view_types.specs.declared.extents.Extent.{Extent}
 use Rattle.view_types.specs.Intervals.{NoneFree, is_free}
 use Rattle.extent_alloc.specs.Free.{FreeSpace}
-use Rattle.module_labels.specs.Labels.{Labels}
+use Rattle.label_codec.specs.ModuleLabels.{Labels}
 use Rattle.region_map.specs.declared.platform.Platform.{Platform}
 use Rattle.region_map.specs.declared.platform.Region.{Region}
 use Rattle.label_table.specs.Division.{has_offset, is_common_free, is_held_at, namespaces_over, part_size}
@@ -21,14 +21,14 @@ use Rattle.label_table.proofs.Listed.{namespaces-ascends, namespaces-to, space-n
 use Rattle.label_table.proofs.ListTests.{eq_other, never}
 use Rattle.label_table.proofs.Order.{space-uuid}
 use Rattle.label_table.proofs.StatusLaws.{ready-parts}
-use Rattle.region_sets.specs.declared.modules.LoadedModule.{LoadedModule}
-use Rattle.region_sets.specs.declared.region.RegionLabels.{RegionLabels}
-use Rattle.region_sets.specs.Fates.{platform_of, region_in}
-use Rattle.region_sets.specs.Modules.{labels_in}
-use Rattle.region_lookups.specs.Ranges.{lone_range}
-use Rattle.region_lookups.proofs.Reached.{IsLone, lone}
-use Rattle.region_changes.specs.Spaces.{LosesNamespace}
-use Rattle.namespace_dropping.specs.Dropping.{IsDropped}
+use Rattle.region_labels.specs.declared.modules.LoadedModule.{LoadedModule}
+use Rattle.region_labels.specs.declared.region.RegionLabels.{RegionLabels}
+use Rattle.region_labels.specs.Fates.{platform_of, region_in}
+use Rattle.region_labels.specs.Modules.{labels_in}
+use Rattle.region_labels.specs.LoneRanges.{lone_range}
+use Rattle.region_labels.proofs.Reached.{IsLone, lone}
+use Rattle.region_labels.specs.GainedSpaces.{LosesNamespace}
+use Rattle.namespace_passes.specs.Dropping.{IsDropped}
 use Rattle.module_flips.specs.Together.{StaysTogether}
 use Rattle.label_sets.specs.Dropping.{CanDropAt, HasAlone, HasAloneAt}
 use Rattle.label_sets.specs.Free.{ChangesKnown, GainsRange}

@@ -10,21 +10,21 @@ use Rattle.region_map.specs.Platforms.{IsSound, region_at}
 use Rattle.region_map.proofs.Disjoint.{usable_region}
 use Rattle.label_table.specs.Tables.{table}
 use Rattle.label_table.proofs.StatusLaws.{ready-parts}
-use Rattle.region_sets.specs.declared.modules.LoadedModule.{LoadedModule}
-use Rattle.region_sets.specs.declared.region.RegionLabels.{RegionLabels}
-use Rattle.region_sets.specs.Fates.{platform_of, region_in, with_regions}
-use Rattle.region_sets.specs.Modules.{dimm_of, labels_in}
-use Rattle.region_changes.specs.Rooms.{KeepsRegion}
+use Rattle.region_labels.specs.declared.modules.LoadedModule.{LoadedModule}
+use Rattle.region_labels.specs.declared.region.RegionLabels.{RegionLabels}
+use Rattle.region_labels.specs.Fates.{platform_of, region_in, with_regions}
+use Rattle.region_labels.specs.Modules.{dimm_of, labels_in}
+use Rattle.region_labels.specs.Rooms.{KeepsRegion}
 use Rattle.module_flips.specs.Together.{IsTogether, StaysTogether}
-use Rattle.namespace_dropping.specs.Dropping.{CanDrop, IsBeforeOrWithout}
-use Rattle.namespace_healing.specs.Healing.{CanHeal}
-use Rattle.namespace_healing.specs.Passes.{label_number, room_in}
+use Rattle.namespace_passes.specs.Dropping.{CanDrop, IsBeforeOrWithout}
+use Rattle.namespace_passes.specs.Healing.{CanHeal}
+use Rattle.namespace_passes.specs.Passes.{label_number, room_in}
 use Rattle.label_sets.specs.declared.sets.Sets.TheInside.{Inside}
 use Rattle.label_sets.specs.Dropping.{CanDropIn}
 use Rattle.label_sets.specs.Healing.{CanHealIn}
 use Rattle.label_sets.specs.Kept.{HasFewMembers, IsKept, IsKnownFree, IsKnownReady, shown}
 use Rattle.label_sets.specs.Room.{HasRoom}
-use Rattle.module_sweeps.specs.Sweeps.{HasSlotsWithin}
+use Rattle.module_flips.specs.Sweeps.{HasSlotsWithin}
 use Rattle.label_sets.specs.Sets.{StoredSets, platform_in}
 use Rattle.label_sets.specs.Staging.{OfRegion}
 use Rattle.label_sets.proofs.KnownReady.{ready-dropped, ready-kept}

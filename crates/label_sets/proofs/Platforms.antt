@@ -12,9 +12,9 @@ use Rattle.region_map.specs.Platforms.{IsSound}
 use Rattle.region_map.proofs.Disjoint.{unusable_region, usable_region}
 use Rattle.label_table.specs.Belonging.{IsDisjoint}
 use Rattle.label_table.proofs.SoundPlatforms.{sound-disjoint}
-use Rattle.region_sets.specs.Fates.{with_regions}
-use Rattle.region_sets.specs.declared.modules.LoadedModule.{LoadedModule}
-use Rattle.region_sets.specs.Modules.{EachOnce, dimm_of}
+use Rattle.region_labels.specs.Fates.{with_regions}
+use Rattle.region_labels.specs.declared.modules.LoadedModule.{LoadedModule}
+use Rattle.region_labels.specs.Modules.{EachOnce, dimm_of}
 
 rises : (xs : List ℕ) → IsStrictlyIncreasing xs → (i k : ℕ) → i + suc k < length xs → get_or xs i 0 + k < get_or xs (i + suc k) 0
 rises xs up i zero lt = let e : i + 1 ≡ i + suc zero = omega arith in subst (λ j. get_or xs i 0 + 0 < get_or xs j 0) e (let next : get_or xs i 0 < get_or xs (i + 1) 0 = up i (omega arith) in omega arith)

@@ -3,15 +3,15 @@ use Rattle.std.proofs.Common.{◌≡◌, ℕ, refl, sym, ap, ◌∙◌}
 use Rattle.std.specs.Prelude.{if◌then◌else◌}
 use Rattle.view_types.specs.declared.states.AreaState.TheVariants as state
 use Rattle.rig_trait.specs.Areas.{Areas}
-use Rattle.module_labels.specs.declared.kind.AreaKind.{AreaKind}
-use Rattle.module_labels.specs.declared.kind.AreaKind.TheVariants as kind
-use Rattle.module_labels.specs.Labels.{Labels, Module, is_ready}
+use Rattle.label_codec.specs.declared.kind.AreaKind.{AreaKind}
+use Rattle.label_codec.specs.declared.kind.AreaKind.TheVariants as kind
+use Rattle.label_codec.specs.ModuleLabels.{Labels, Module, is_ready}
 use Rattle.label_area.specs.Modules.{module_at}
 use Rattle.region_map.specs.declared.platform.Platform.{Platform}
-use Rattle.region_sets.specs.declared.modules.LoadedModule.{LoadedModule}
-use Rattle.region_sets.specs.Held.{spare_in}
-use Rattle.region_sets.specs.Modules.{module_in}
-use Rattle.region_sets.specs.Statuses.{unready_state}
+use Rattle.region_labels.specs.declared.modules.LoadedModule.{LoadedModule}
+use Rattle.region_labels.specs.Held.{spare_in}
+use Rattle.region_labels.specs.Modules.{module_in}
+use Rattle.region_labels.specs.Statuses.{unready_state}
 use Rattle.module_flips.specs.Stored.{StandsIn}
 use Rattle.module_flips.proofs.Stored.{stands-module}
 use Rattle.label_sets.specs.Init.{refused_by, refused_state}

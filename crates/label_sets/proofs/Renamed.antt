@@ -17,16 +17,16 @@ use Rattle.label_table.proofs.Order.{space-uuid}
 use Rattle.label_table.proofs.StatusLaws.{ready-with}
 use Rattle.label_table.proofs.TableChanges.{changes-with_changed_space}
 use Rattle.label_table.proofs.WholeUuids.{IsLed, whole-led}
-use Rattle.region_sets.specs.declared.modules.LoadedModule.{LoadedModule}
-use Rattle.region_sets.specs.declared.region.RegionLabels.{RegionLabels}
-use Rattle.region_sets.specs.Fates.{platform_of, region_in}
-use Rattle.region_sets.specs.Modules.{labels_in}
-use Rattle.region_changes.specs.Spaces.{ShowsNew}
-use Rattle.region_changes.proofs.FreeSpace.{shown-all}
+use Rattle.region_labels.specs.declared.modules.LoadedModule.{LoadedModule}
+use Rattle.region_labels.specs.declared.region.RegionLabels.{RegionLabels}
+use Rattle.region_labels.specs.Fates.{platform_of, region_in}
+use Rattle.region_labels.specs.Modules.{labels_in}
+use Rattle.region_labels.specs.GainedSpaces.{ShowsNew}
+use Rattle.region_labels.proofs.FreeSpace.{shown-all}
 use Rattle.module_flips.specs.Together.{StaysTogether}
-use Rattle.namespace_healing.specs.Healing.{CanHeal}
-use Rattle.namespace_healing.proofs.Passing.{can-still}
-use Rattle.namespace_marking.specs.Renaming.{IsRenamed, renamed_space}
+use Rattle.namespace_passes.specs.Healing.{CanHeal}
+use Rattle.namespace_passes.proofs.Passing.{can-still}
+use Rattle.namespace_passes.specs.Renaming.{IsRenamed, renamed_space}
 use Rattle.label_sets.specs.Kept.{IsKnownFree}
 use Rattle.label_sets.specs.Renaming.{IsRenamedIn}
 use Rattle.label_sets.proofs.FreeAfter.{free-as, known-kept}

@@ -13,11 +13,11 @@ use Rattle.std.proofs.lemmas.Option.{same_Some}
 use Rattle.extent_alloc.specs.Free.{FreeSpace}
 use Rattle.region_map.specs.declared.platform.Platform.{Platform}
 use Rattle.region_map.specs.declared.platform.Region.{Region}
-use Rattle.region_sets.specs.declared.modules.LoadedModule.{LoadedModule}
-use Rattle.region_sets.specs.declared.region.RegionLabels.{RegionLabels}
-use Rattle.region_sets.specs.Fates.{platform_of, region_in, with_regions}
-use Rattle.region_sets.specs.Modules.{labels_in}
-use Rattle.region_sets.specs.Regions.{IsOver}
+use Rattle.region_labels.specs.declared.modules.LoadedModule.{LoadedModule}
+use Rattle.region_labels.specs.declared.region.RegionLabels.{RegionLabels}
+use Rattle.region_labels.specs.Fates.{platform_of, region_in, with_regions}
+use Rattle.region_labels.specs.Modules.{labels_in}
+use Rattle.region_labels.specs.Regions.{IsOver}
 use Rattle.label_table.specs.Division.{AreFreeExtents, part_size}
 use Rattle.label_sets.specs.Kept.{AllFree, HasFewMembers, IsFree, IsKnownFree}
 use Rattle.label_sets.specs.Room.{HasExtentRoom, HasLabelRoom, HasRoom, HaveExtentRoom, without_room, without_spare}

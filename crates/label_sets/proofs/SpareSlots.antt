@@ -1,12 +1,12 @@
 -- A module stands once, so the slots that are spare for its handle are its own.
 use Rattle.std.proofs.Common.{◌≡◌, ℕ, ◌-◌, ◌<◌, not, List, length, get_or, sym, ap, ◌∙◌}
-use Rattle.module_labels.specs.Labels.{number}
+use Rattle.label_codec.specs.ModuleLabels.{number}
 use Rattle.region_map.specs.declared.platform.Platform.{Platform}
 use Rattle.label_table.specs.Fates.{is_dead, spare}
-use Rattle.region_sets.specs.declared.modules.LoadedModule.{LoadedModule}
-use Rattle.region_sets.specs.Held.{spare_in}
-use Rattle.region_sets.specs.Modules.{EachOnce, labels_in, module_in}
-use Rattle.region_changes.proofs.ChangedModules.{dimm-at, labels-at}
+use Rattle.region_labels.specs.declared.modules.LoadedModule.{LoadedModule}
+use Rattle.region_labels.specs.Held.{spare_in}
+use Rattle.region_labels.specs.Modules.{EachOnce, labels_in, module_in}
+use Rattle.region_labels.proofs.ChangedModules.{dimm-at, labels-at}
 
 pub spare-there : (P : Platform) (ms : List LoadedModule) → EachOnce ms → (place : ℕ) (x : LoadedModule) → place < length ms → (dimm : ℕ) → (get_or ms place x).dimm ≡ dimm
     → spare_in P (labels_in ms) (get_or ms place x) ≡ spare P (labels_in ms) dimm

@@ -9,8 +9,8 @@ use Rattle.std.proofs.lemmas.List.Elements.{Contains-get_or}
 use Rattle.std.proofs.lemmas.Option.{IfSome_then}
 use Rattle.view_types.specs.declared.namespaces.Namespace.{Namespace}
 use Rattle.extent_alloc.specs.Free.{FreeSpace}
-use Rattle.module_labels.specs.declared.kind.AreaKind.{AreaKind}
-use Rattle.module_labels.specs.Labels.{Labels, is_ready}
+use Rattle.label_codec.specs.declared.kind.AreaKind.{AreaKind}
+use Rattle.label_codec.specs.ModuleLabels.{Labels, is_ready}
 use Rattle.region_map.specs.declared.platform.Member.{Member}
 use Rattle.region_map.specs.declared.platform.Platform.{Platform}
 use Rattle.region_map.specs.declared.platform.Region.{Region}
@@ -24,10 +24,10 @@ use Rattle.label_table.specs.Statuses.{RegionReady, first_not_ready, status}
 use Rattle.label_table.specs.Tables.{is_member}
 use Rattle.label_table.specs.Wholes.{all_ready}
 use Rattle.label_table.proofs.StatusLaws.{ready-parts}
-use Rattle.region_sets.specs.declared.modules.LoadedModule.{LoadedModule}
-use Rattle.region_sets.specs.declared.region.RegionLabels.{RegionLabels}
-use Rattle.region_sets.specs.Fates.{platform_of, region_in}
-use Rattle.region_sets.specs.Modules.{labels_in}
+use Rattle.region_labels.specs.declared.modules.LoadedModule.{LoadedModule}
+use Rattle.region_labels.specs.declared.region.RegionLabels.{RegionLabels}
+use Rattle.region_labels.specs.Fates.{platform_of, region_in}
+use Rattle.region_labels.specs.Modules.{labels_in}
 use Rattle.module_flips.specs.Together.{IsTogether, free_slots}
 use Rattle.label_sets.specs.Kept.{IsKnownFree}
 use Rattle.label_sets.specs.Room.{HasExtentRoom, HasRoom}

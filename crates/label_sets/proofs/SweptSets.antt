@@ -9,17 +9,17 @@ use Rattle.std.proofs.lemmas.Option.{IfSome_then}
 use Rattle.extent_alloc.specs.Free.{FreeSpace}
 use Rattle.region_map.specs.declared.platform.Platform.{Platform}
 use Rattle.region_map.specs.declared.platform.Region.{Region}
-use Rattle.region_sets.specs.declared.modules.LoadedModule.{LoadedModule}
-use Rattle.region_sets.specs.declared.region.RegionLabels.{RegionLabels}
-use Rattle.region_sets.specs.Fates.{region_in}
-use Rattle.region_sets.specs.Modules.{EachOnce, dimm_of, labels_in, module_in}
-use Rattle.region_changes.specs.Changes.{dimm_at}
-use Rattle.region_changes.proofs.ChangedModules.{dimm-at}
+use Rattle.region_labels.specs.declared.modules.LoadedModule.{LoadedModule}
+use Rattle.region_labels.specs.declared.region.RegionLabels.{RegionLabels}
+use Rattle.region_labels.specs.Fates.{region_in}
+use Rattle.region_labels.specs.Modules.{EachOnce, dimm_of, labels_in, module_in}
+use Rattle.region_labels.specs.Changes.{dimm_at}
+use Rattle.region_labels.proofs.ChangedModules.{dimm-at}
 use Rattle.module_flips.proofs.Freed.{apart-at}
 use Rattle.module_flips.specs.Together.{IsTogether, StaysTogether}
-use Rattle.module_sweeps.specs.Sweeps.{HasNoMoreEntries, HasSlotsWithin, IsSwept}
-use Rattle.module_sweeps.proofs.FreedModules.{no_module}
-use Rattle.namespace_healing.proofs.Passing.{still-kept}
+use Rattle.module_flips.specs.Sweeps.{HasNoMoreEntries, HasSlotsWithin, IsSwept}
+use Rattle.module_flips.proofs.FreedModules.{no_module}
+use Rattle.namespace_passes.proofs.Passing.{still-kept}
 use Rattle.label_sets.specs.declared.sets.Sets.TheInside.{Inside}
 use Rattle.label_sets.specs.Kept.{IsKept, IsKnownFree, IsKnownReady}
 use Rattle.label_sets.specs.Room.{HasRoom}

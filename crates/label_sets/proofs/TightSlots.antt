@@ -5,22 +5,22 @@ use Rattle.std.proofs.lemmas.Bool.{and_parts, cases_eq, cases_lt}
 use Rattle.index_block.specs.Bitmap.{free_count, is_free_in}
 use Rattle.index_block.proofs.FreeSlots.{free_count-more}
 use Rattle.label_codec.specs.declared.label.Label.{Label}
-use Rattle.module_labels.specs.Labels.{Labels, count, one}
+use Rattle.label_codec.specs.ModuleLabels.{Labels, count, one}
 use Rattle.region_map.specs.declared.platform.Platform.{Platform}
 use Rattle.label_table.specs.Fates.{is_dead}
-use Rattle.region_sets.specs.declared.modules.ModuleArea.{ModuleArea}
-use Rattle.region_sets.specs.declared.modules.ModuleArea.TheVariants.{Missing, WrongSize, Uninit, Foreign, Ready}
-use Rattle.region_sets.specs.Held.{spare_in}
-use Rattle.region_sets.specs.Modules.{labels_in, module_in}
+use Rattle.region_labels.specs.declared.modules.ModuleArea.{ModuleArea}
+use Rattle.region_labels.specs.declared.modules.ModuleArea.TheVariants.{Missing, WrongSize, Uninit, Foreign, Ready}
+use Rattle.region_labels.specs.Held.{spare_in}
+use Rattle.region_labels.specs.Modules.{labels_in, module_in}
 use Rattle.module_flips.specs.Flips.{HasLabelsInUse, is_used_in}
 use Rattle.module_flips.specs.Together.{free_slots}
 use Rattle.module_flips.proofs.Freed.{used-within}
-use Rattle.region_sets.specs.Fates.{platform_of}
+use Rattle.region_labels.specs.Fates.{platform_of}
 use Rattle.label_sets.specs.declared.sets.Sets.TheInside.{Inside}
 use Rattle.label_sets.specs.Kept.{IsKept, shown}
 use Rattle.label_sets.specs.Sets.{StoredSets}
 use Rattle.label_sets.specs.Sweeps.{IsFreeAsSpare, IsSweptAt}
-use Rattle.module_sweeps.specs.Sweeps.{IsSwept}
+use Rattle.module_flips.specs.Sweeps.{IsSwept}
 use Rattle.label_sets.proofs.SpareSlots.{spare-there}
 
 apart : {A : Type 0} → false ≡ true → A

@@ -7,17 +7,17 @@ use Rattle.view_types.specs.declared.extents.Extent.{Extent}
 use Rattle.view_types.specs.declared.namespaces.Held.{Held}
 use Rattle.view_types.specs.declared.states.Status.{Status}
 use Rattle.view_types.specs.declared.views.RegionView.{RegionView}
-use Rattle.module_labels.specs.Labels.{Labels}
+use Rattle.label_codec.specs.ModuleLabels.{Labels}
 use Rattle.region_map.specs.declared.platform.Platform.{Platform}
 use Rattle.region_map.specs.declared.platform.Region.{Region}
 use Rattle.label_table.specs.Division.{AreFreeExtents}
 use Rattle.label_table.specs.Statuses.{AreaNotReady, Clash, RegionReady, RegionStatus, Unusable}
-use Rattle.region_sets.specs.declared.modules.LoadedModule.{LoadedModule}
-use Rattle.region_sets.specs.declared.region.RegionLabels.{RegionLabels}
-use Rattle.region_sets.specs.Fates.{platform_of, region_in}
-use Rattle.region_sets.specs.Held.{AreHeldIn}
-use Rattle.region_sets.specs.Modules as modules
-use Rattle.region_sets.specs.Statuses.{shown_status}
+use Rattle.region_labels.specs.declared.modules.LoadedModule.{LoadedModule}
+use Rattle.region_labels.specs.declared.region.RegionLabels.{RegionLabels}
+use Rattle.region_labels.specs.Fates.{platform_of, region_in}
+use Rattle.region_labels.specs.Held.{AreHeldIn}
+use Rattle.region_labels.specs.Modules as modules
+use Rattle.region_labels.specs.Statuses.{shown_status}
 use Rattle.label_sets.specs.declared.sets.Sets.TheInside.{Inside}
 use Rattle.label_sets.specs.Kept.{shown}
 use Rattle.label_sets.specs.Sets.{StoredSets, labels_in, platform_in}

@@ -5,12 +5,12 @@ use Rattle.std.specs.Vec.{with_items}
 use Rattle.std.specs.declared.vec.Vec.{Vec}
 use Rattle.std.proofs.lemmas.List.{get_or-map, length-map, with_items_is}
 use Rattle.region_map.specs.declared.platform.Region.{Region}
-use Rattle.region_sets.specs.declared.modules.LoadedModule.{LoadedModule}
-use Rattle.region_sets.specs.declared.region.RegionLabels.{RegionLabels}
-use Rattle.region_sets.specs.Fates.{region_in}
+use Rattle.region_labels.specs.declared.modules.LoadedModule.{LoadedModule}
+use Rattle.region_labels.specs.declared.region.RegionLabels.{RegionLabels}
+use Rattle.region_labels.specs.Fates.{region_in}
 use Rattle.module_flips.specs.Together.{slots_in}
 use Rattle.label_sets.specs.Kept.{HasFewMembers}
-use Rattle.module_sweeps.specs.Sweeps.{HasSlotsWithin}
+use Rattle.module_flips.specs.Sweeps.{HasSlotsWithin}
 
 -- a list that is written back over a vector of as many
 pub back-is : {X Z : Type 0} (v : Vec X Z) (ws xs : List X) → xs ≡ v.items → length ws ≡ length xs → (with_items v ws).items ≡ ws

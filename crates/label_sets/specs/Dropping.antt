@@ -3,7 +3,7 @@ use Rattle.std.specs.Prelude.{◌≡◌, ◌⊎◌, ℕ, ◌+◌, ◌<◌, true,
 use Rattle.std.specs.List.{Contains}
 use Rattle.view_types.specs.declared.extents.Extent.{Extent}
 use Rattle.extent_alloc.specs.Free.{FreeSpace}
-use Rattle.module_labels.specs.Labels.{Labels}
+use Rattle.label_codec.specs.ModuleLabels.{Labels}
 use Rattle.region_map.specs.declared.platform.Member.{Member}
 use Rattle.region_map.specs.declared.platform.Platform.{Platform}
 use Rattle.region_map.specs.declared.platform.Region.{Region}
@@ -12,14 +12,14 @@ use Rattle.label_table.specs.Flips.{AllStale, HasNone}
 use Rattle.label_table.specs.Spaces.{Space, space}
 use Rattle.label_table.specs.Tables.{slot_of, without_namespace}
 use Rattle.label_table.specs.Wholes.{is_whole}
-use Rattle.region_sets.specs.declared.modules.LoadedModule.{LoadedModule}
-use Rattle.region_sets.specs.declared.region.RegionLabels.{RegionLabels}
-use Rattle.region_sets.specs.Fates.{platform_of, region_in}
-use Rattle.region_sets.specs.Modules as loaded
-use Rattle.region_sets.specs.Ranges.{range_of}
-use Rattle.region_changes.specs.Spaces.{IsAlone}
+use Rattle.region_labels.specs.declared.modules.LoadedModule.{LoadedModule}
+use Rattle.region_labels.specs.declared.region.RegionLabels.{RegionLabels}
+use Rattle.region_labels.specs.Fates.{platform_of, region_in}
+use Rattle.region_labels.specs.Modules as loaded
+use Rattle.region_labels.specs.Ranges.{range_of}
+use Rattle.region_labels.specs.GainedSpaces.{IsAlone}
 use Rattle.module_flips.specs.Together.{free_slots}
-use Rattle.namespace_dropping.specs.Dropping.{CanDrop}
+use Rattle.namespace_passes.specs.Dropping.{CanDrop}
 use Rattle.label_sets.specs.Kept.{IsKnownFree, IsKnownReady}
 use Rattle.label_sets.specs.Sets.{StoredSets, labels_in, state_in}
 

@@ -5,7 +5,7 @@ use Rattle.label_table.specs.Statuses.{RegionReady, status}
 use Rattle.label_table.specs.Tables.{changed_at, is_member}
 use Rattle.label_table.specs.Wholes.{any_read_only, is_whole, labels_with}
 use Rattle.region_map.specs.declared.platform.Region.{Region}
-use Rattle.region_sets.specs.declared.modules.LoadedModule.{LoadedModule}
+use Rattle.region_labels.specs.declared.modules.LoadedModule.{LoadedModule}
 use Rattle.module_flips.specs.Together.{free_slots}
 use Rattle.label_sets.specs.Sets.{StoredSets, labels_in, state_in}
 

@@ -6,27 +6,27 @@ use Rattle.index_block.specs.declared.geometry.Geometry.{Geometry}
 use Rattle.index_block.specs.Geometry.{geometry_of}
 use Rattle.view_types.specs.declared.states.AreaState.{AreaState}
 use Rattle.view_types.specs.declared.states.AreaState.TheVariants as state
-use Rattle.module_labels.specs.declared.kind.AreaKind.{AreaKind}
-use Rattle.module_labels.specs.declared.kind.AreaKind.TheVariants as kind
-use Rattle.module_labels.specs.Labels.{Labels, Module}
+use Rattle.label_codec.specs.declared.kind.AreaKind.{AreaKind}
+use Rattle.label_codec.specs.declared.kind.AreaKind.TheVariants as kind
+use Rattle.label_codec.specs.ModuleLabels.{Labels, Module}
 use Rattle.region_map.specs.declared.platform.Platform.{Platform}
 use Rattle.label_area.specs.declared.init.InitFault.{InitFault}
 use Rattle.label_area.specs.declared.init.InitFault.TheVariants as init
 use Rattle.label_table.specs.Settling.{IsInitialised, settled, with_ready_area}
 use Rattle.label_table.specs.Tables.{State}
-use Rattle.region_sets.specs.declared.modules.LoadedModule.{LoadedModule}
-use Rattle.region_sets.specs.declared.modules.ModuleArea.{ModuleArea}
-use Rattle.region_sets.specs.declared.modules.ModuleArea.TheVariants.{Missing, WrongSize, Uninit, Foreign, Ready}
-use Rattle.region_sets.specs.declared.region.RegionLabels.{RegionLabels}
-use Rattle.region_sets.specs.Held.{spare_in}
-use Rattle.region_sets.specs.Modules.{EachOnce, dimm_of, is_of, labels_in, module_in, size_in}
-use Rattle.region_sets.specs.Regions.{IsOver}
+use Rattle.region_labels.specs.declared.modules.LoadedModule.{LoadedModule}
+use Rattle.region_labels.specs.declared.modules.ModuleArea.{ModuleArea}
+use Rattle.region_labels.specs.declared.modules.ModuleArea.TheVariants.{Missing, WrongSize, Uninit, Foreign, Ready}
+use Rattle.region_labels.specs.declared.region.RegionLabels.{RegionLabels}
+use Rattle.region_labels.specs.Held.{spare_in}
+use Rattle.region_labels.specs.Modules.{EachOnce, dimm_of, is_of, labels_in, module_in, size_in}
+use Rattle.region_labels.specs.Regions.{IsOver}
 use Rattle.module_flips.specs.Flips.{HasLabelsInUse, IsOwn}
 use Rattle.label_sets.specs.declared.init.SetInitFault.{SetInitFault}
 use Rattle.label_sets.specs.declared.init.SetInitFault.TheVariants.{Refused, Failed, Memory}
 use Rattle.label_sets.specs.Sets.{StoredSets, platform_in}
 use Rattle.label_sets.specs.Sets as sets
-use Rattle.module_sweeps.specs.Sweeps.{ChangesOnly}
+use Rattle.module_flips.specs.Sweeps.{ChangesOnly}
 use Rattle.label_sets.specs.Views.{area_state}
 
 -- the rig failed

@@ -6,8 +6,8 @@ use Rattle.rig_trait.specs.Frames.{FailsAt}
 use Rattle.label_area.specs.LoadedAreas.{LoadedArea}
 use Rattle.label_area.specs.declared.load.AreaFault.{AreaFault}
 use Rattle.label_area.specs.declared.load.AreaFault.TheVariants as fault
-use Rattle.region_sets.specs.declared.modules.ModuleArea.{ModuleArea}
-use Rattle.region_sets.specs.declared.modules.ModuleArea.TheVariants.{Missing, WrongSize, Uninit, Foreign, Ready}
+use Rattle.region_labels.specs.declared.modules.ModuleArea.{ModuleArea}
+use Rattle.region_labels.specs.declared.modules.ModuleArea.TheVariants.{Missing, WrongSize, Uninit, Foreign, Ready}
 use Rattle.label_sets.specs.declared.load.SetFault.{SetFault}
 use Rattle.label_sets.specs.declared.load.SetFault.TheVariants.{Failed, Memory}
 

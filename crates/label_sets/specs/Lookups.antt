@@ -4,15 +4,15 @@ use Rattle.std.specs.Option.{option_and_then}
 use Rattle.view_types.specs.declared.extents.Extent.{Extent}
 use Rattle.view_types.specs.declared.namespaces.Namespace.{Namespace}
 use Rattle.view_types.specs.Intervals.{IsFirstFit, NoneFits, is_free}
-use Rattle.module_labels.specs.Labels.{Labels}
+use Rattle.label_codec.specs.ModuleLabels.{Labels}
 use Rattle.region_map.specs.declared.platform.Platform.{Platform}
 use Rattle.region_map.specs.declared.platform.Region.{Region}
 use Rattle.region_map.specs.Platforms.{region_at}
 use Rattle.label_table.specs.Division.{AreFreeExtents, alignment}
-use Rattle.region_lookups.specs.declared.positions.ModuleSpare.{ModuleSpare}
-use Rattle.region_lookups.specs.Positions.{IsFirstWithoutSpare}
-use Rattle.region_sets.specs.declared.region.RegionLabels.{RegionLabels}
-use Rattle.region_sets.specs.Regions.{IsOver}
+use Rattle.region_labels.specs.declared.positions.ModuleSpare.{ModuleSpare}
+use Rattle.region_labels.specs.Positions.{IsFirstWithoutSpare}
+use Rattle.region_labels.specs.declared.region.RegionLabels.{RegionLabels}
+use Rattle.region_labels.specs.Regions.{IsOver}
 use Rattle.label_sets.specs.Sets.{StoredSets, labels_in, platform_in}
 
 -- what the region with an index has, where there is one

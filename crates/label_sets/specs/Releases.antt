@@ -1,6 +1,6 @@
 -- A module of the state gives up its held labels with a uuid.
 use Rattle.std.specs.Prelude.{◌≡◌, ◌<◌, ℕ, List, true}
-use Rattle.module_labels.specs.Labels.{has, is_ready}
+use Rattle.label_codec.specs.ModuleLabels.{has, is_ready}
 use Rattle.label_sets.specs.Sets.{StoredSets, labels_in, state_in}
 
 -- The area of the module is Ready, and it holds a label with the uuid.

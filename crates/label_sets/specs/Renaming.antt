@@ -2,7 +2,7 @@
 use Rattle.std.specs.Prelude.{◌≡◌, ℕ, List, map}
 use Rattle.region_map.specs.declared.platform.Region.{Region}
 use Rattle.module_flips.specs.Together.{free_slots}
-use Rattle.namespace_marking.specs.Renaming.{with_renamed_namespace}
+use Rattle.namespace_passes.specs.Renaming.{with_renamed_namespace}
 use Rattle.label_sets.specs.Sets.{StoredSets, state_in}
 use Rattle.label_sets.specs.Healing.{CanHealIn}
 

@@ -2,7 +2,7 @@
 use Rattle.std.specs.Prelude.{ℕ, ◌<◌, ◌≤◌, IfSome, List, Option, length, slice_index_or}
 use Rattle.std.specs.List.{All}
 use Rattle.extent_alloc.specs.Free.{FreeSpace}
-use Rattle.region_sets.specs.declared.region.RegionLabels.{RegionLabels}
+use Rattle.region_labels.specs.declared.region.RegionLabels.{RegionLabels}
 
 -- the index has room for one label more of each member's module
 abbrev pub HasLabelRoom : RegionLabels → Type 0

@@ -1,13 +1,13 @@
 -- What contracts see of the state of all modules.
 use Rattle.std.specs.Prelude.{Bool, List, refl}
 use Rattle.std.specs.Coded.{Coded, code_by, coded_bool, coded_list, coded×}
-use Rattle.module_labels.specs.Labels.{Labels}
+use Rattle.label_codec.specs.ModuleLabels.{Labels}
 use Rattle.region_map.specs.declared.platform.Platform.{Platform}
 use Rattle.region_map.specs.declared.platform.Region.{Region}
 use Rattle.label_table.specs.Tables.{State, state}
-use Rattle.region_sets.specs.declared.modules.LoadedModule.{LoadedModule}
-use Rattle.region_sets.specs.Fates.{with_regions}
-use Rattle.region_sets.specs.Modules as modules
+use Rattle.region_labels.specs.declared.modules.LoadedModule.{LoadedModule}
+use Rattle.region_labels.specs.Fates.{with_regions}
+use Rattle.region_labels.specs.Modules as modules
 use Rattle.label_sets.specs.Codes.{module_code, region_code}
 
 -- The regions, the modules with what was loaded of their areas, and whether there is room for a change.

@@ -3,7 +3,7 @@ use Rattle.std.specs.Prelude.{◌≡◌, ℕ, ◌+◌, ◌≤◌, ◌<◌, true,
 use Rattle.std.specs.List.{All}
 use Rattle.view_types.specs.declared.namespaces.Namespace.{Namespace}
 use Rattle.extent_alloc.specs.Free.{FreeSpace}
-use Rattle.module_labels.specs.Labels.{Labels}
+use Rattle.label_codec.specs.ModuleLabels.{Labels}
 use Rattle.region_map.specs.declared.platform.Member.{Member}
 use Rattle.region_map.specs.declared.platform.Platform.{Platform}
 use Rattle.region_map.specs.declared.platform.Region.{Region}
@@ -13,12 +13,12 @@ use Rattle.label_table.specs.Division.{is_common_free}
 use Rattle.label_table.specs.Flips.{HasNone}
 use Rattle.label_table.specs.Statuses.{RegionReady, status}
 use Rattle.label_table.specs.Tables.{is_member, slot_of}
-use Rattle.region_sets.specs.declared.modules.LoadedModule.{LoadedModule}
-use Rattle.region_sets.specs.declared.region.RegionLabels.{RegionLabels}
-use Rattle.region_sets.specs.Fates.{platform_of, region_in}
-use Rattle.region_sets.specs.Modules as loaded
+use Rattle.region_labels.specs.declared.modules.LoadedModule.{LoadedModule}
+use Rattle.region_labels.specs.declared.region.RegionLabels.{RegionLabels}
+use Rattle.region_labels.specs.Fates.{platform_of, region_in}
+use Rattle.region_labels.specs.Modules as loaded
 use Rattle.module_flips.specs.Together.{free_slots}
-use Rattle.namespace_staging.specs.Staging.{CanStage}
+use Rattle.namespace_passes.specs.Staging.{CanStage}
 use Rattle.label_sets.specs.Kept.{IsKnownFree}
 use Rattle.label_sets.specs.Sets.{StoredSets, labels_in, platform_in}
 

@@ -1,8 +1,8 @@
 -- The sweep of a module, among those of the state.
 use Rattle.std.specs.Prelude.{◌≡◌, ℕ, ◌<◌, length, slice_index_or}
-use Rattle.region_sets.specs.declared.modules.LoadedModule.{LoadedModule}
+use Rattle.region_labels.specs.declared.modules.LoadedModule.{LoadedModule}
 use Rattle.module_flips.specs.Together.{free_slots}
-use Rattle.module_sweeps.specs.Sweeps.{IsSwept}
+use Rattle.module_flips.specs.Sweeps.{IsSwept}
 use Rattle.label_sets.specs.Sets.{StoredSets, labels_in, platform_in, state_in}
 
 -- the module with a device handle is swept

@@ -10,19 +10,19 @@ use Rattle.view_types.specs.declared.states.Status.TheVariants as shown
 use Rattle.view_types.specs.declared.views.ModuleView.{ModuleView}
 use Rattle.view_types.specs.declared.views.RegionView.{RegionView}
 use Rattle.view_types.specs.declared.views.View.{View}
-use Rattle.module_labels.specs.Labels.{Labels, is_ready}
+use Rattle.label_codec.specs.ModuleLabels.{Labels, is_ready}
 use Rattle.region_map.specs.declared.platform.Platform.{Platform}
 use Rattle.region_map.specs.declared.platform.Region.{Region}
 use Rattle.region_map.specs.Platforms.{region_at}
 use Rattle.label_table.specs.Division.{AreFreeExtents}
 use Rattle.label_table.specs.Namespaces.{namespaces}
 use Rattle.label_table.specs.Statuses.{AreaNotReady, Clash, RegionReady, RegionStatus, Unusable, status}
-use Rattle.region_sets.specs.declared.modules.LoadedModule.{LoadedModule}
-use Rattle.region_sets.specs.Fates.{with_regions}
-use Rattle.region_sets.specs.Held.{AreHeldIn, spare_in}
-use Rattle.region_sets.specs.Marks.{listed_in}
-use Rattle.region_sets.specs.Modules.{is_of, module_in}
-use Rattle.region_sets.specs.Statuses.{shown_status, unready_state}
+use Rattle.region_labels.specs.declared.modules.LoadedModule.{LoadedModule}
+use Rattle.region_labels.specs.Fates.{with_regions}
+use Rattle.region_labels.specs.Held.{AreHeldIn, spare_in}
+use Rattle.region_labels.specs.Marks.{listed_in}
+use Rattle.region_labels.specs.Modules.{is_of, module_in}
+use Rattle.region_labels.specs.Statuses.{shown_status, unready_state}
 use Rattle.label_sets.specs.Sets.{StoredSets, labels_in, platform_in}
 
 -- the free extents of a region are shown where it is Ready

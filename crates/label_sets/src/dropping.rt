@@ -4,14 +4,14 @@ ghost use Rattle.std.specs.Prelude.{◌≡◌, ◌<◌, IfSome, IsSome, OnOk, fa
 ghost use Rattle.std.specs.List.{All};
 ghost use Rattle.rig_trait.specs.Frames.{IsTold, LeavesOnly};
 ghost use Rattle.region_map.specs.Platforms.{IsSound, region_at};
-ghost use Rattle.region_sets.specs.Fates.{platform_of};
-ghost use Rattle.region_sets.specs.Modules.{dimm_of, labels_in};
-ghost use Rattle.region_sets.specs.Regions.{handles};
+ghost use Rattle.region_labels.specs.Fates.{platform_of};
+ghost use Rattle.region_labels.specs.Modules.{dimm_of, labels_in};
+ghost use Rattle.region_labels.specs.Regions.{handles};
 ghost use Rattle.module_flips.specs.Flips.{IsSizedIn};
 ghost use Rattle.module_flips.specs.Stops.{HasAreaCause, LeftIn, WritesAmong};
 ghost use Rattle.module_flips.specs.Stored.{StandsIn};
 ghost use Rattle.module_flips.specs.Together.{IsTogether, StaysTogether};
-ghost use Rattle.namespace_dropping.specs.Dropping.{IsBeforeOrWithout, IsDropped};
+ghost use Rattle.namespace_passes.specs.Dropping.{IsBeforeOrWithout, IsDropped};
 ghost use Rattle.label_sets.specs.Dropping.{CanDropAt, HasAloneAt};
 ghost use Rattle.label_sets.specs.Kept.{IsKnownFree, IsKnownReady};
 
@@ -19,15 +19,14 @@ use crate::free::FreeExtents;
 use crate::sets::Sets;
 use crate::views::place_of;
 use module_flips::AreaFailed;
-use namespace_dropping::drop_labels;
-use region_lookups::lone_range;
+use namespace_passes::drop_labels;
+use region_labels::{LoadedModule, RegionLabels, lone_range};
 use region_map::{Platform, Region};
-use region_sets::{LoadedModule, RegionLabels};
 use rig_trait::Rig;
 use view_types::Extent;
 
 impl Sets {
-    ghost use Rattle.region_sets.specs.Modules.{size_in};
+    ghost use Rattle.region_labels.specs.Modules.{size_in};
     ghost use Rattle.label_sets.specs.Sets as sets;
     ghost use Rattle.label_sets.specs.Sets.{platform_in};
     ghost use Rattle.label_sets.specs.Staging.{OfRegion};

@@ -7,14 +7,14 @@ ghost use Rattle.std.specs.Option.{option_copied, option_map};
 ghost use Rattle.view_types.specs.Intervals as intervals;
 ghost use Rattle.view_types.specs.Intervals.{AreMaximal, NoneFree, is_free, with_range, without_range};
 ghost use Rattle.extent_alloc.specs.Free.{FreeSpace};
-ghost use Rattle.region_sets.specs.Regions.{IsOver};
+ghost use Rattle.region_labels.specs.Regions.{IsOver};
 ghost use Rattle.label_sets.specs.Free.{ChangesKnown, GainsRange, LosesRange, space_at};
 ghost use Rattle.label_sets.specs.Kept.{AllFree, IsKnownFree};
 ghost use Rattle.label_sets.specs.Room.{HaveExtentRoom, without_spare};
 
 use crate::room::reserve_extents;
 use extent_alloc::{Extents, Steps};
-use region_sets::{LoadedModule, RegionLabels, free_extents};
+use region_labels::{LoadedModule, RegionLabels, free_extents};
 use std::alloc::{AllocError, Global};
 use std::marker::{Brand, Model};
 use std::sync::ledger::{Blank, Ledger};

@@ -3,14 +3,14 @@
 ghost use Rattle.std.specs.Prelude.{◌≡◌, ◌+◌, ◌*◌, ◌≤◌, IfErr, IfOk, length, map};
 ghost use Rattle.std.specs.List.{All};
 ghost use Rattle.rig_trait.specs.Frames.{IsTold, Reads};
-ghost use Rattle.region_sets.specs.Modules.{dimm_of};
+ghost use Rattle.region_labels.specs.Modules.{dimm_of};
 ghost use Rattle.module_flips.specs.Flips.{HasLabelsInUse, IsOwn};
 ghost use Rattle.label_sets.specs.Loads.{HasCause, IsAt, IsAmong, area_by};
 ghost use Rattle.module_flips.specs.Stored.{StandsIn};
 ghost use Rattle.label_sets.specs.declared.load.SetFault.TheVariants.{Memory};
 
 use label_area::{Area, AreaFault};
-use region_sets::{LoadedModule, ModuleArea};
+use region_labels::{LoadedModule, ModuleArea};
 use rig_trait::Rig;
 use std::alloc::{AllocError, AllocFailed, Global};
 

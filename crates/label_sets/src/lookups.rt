@@ -2,18 +2,17 @@
 
 ghost use Rattle.std.specs.Prelude.{◌≡◌, ◌<◌, IfOk, Some, find};
 ghost use Rattle.std.specs.Option.{option_copied, option_map};
-ghost use Rattle.region_lookups.specs.Holders.{IsHolder};
-ghost use Rattle.region_lookups.specs.Named.{named_in};
-ghost use Rattle.region_lookups.specs.Spaces.{has_name_beside, listed_spaces, shows_pending};
-ghost use Rattle.region_sets.specs.Marks.{namespace_at};
+ghost use Rattle.region_labels.specs.Holders.{IsHolder};
+ghost use Rattle.region_labels.specs.Named.{named_in};
+ghost use Rattle.region_labels.specs.ListedSpaces.{has_name_beside, listed_spaces, shows_pending};
+ghost use Rattle.region_labels.specs.Marks.{namespace_at};
 ghost use Rattle.label_sets.specs.Lookups.{FitsFirst, IsKeptIn, LacksSpare, in_region, uuid_of};
 ghost use Rattle.label_sets.specs.Sets.{labels_in, platform_in};
 
 use crate::largest::ALIGNMENT;
 use crate::sets::Sets;
 use crate::views::place_of;
-use region_lookups::{ModuleSpare, Named};
-use region_sets::RegionLabels;
+use region_labels::{ModuleSpare, Named, RegionLabels};
 use std::alloc::{AllocError, Global};
 use view_types::Namespace;
 

@@ -4,9 +4,9 @@ ghost use Rattle.std.specs.Prelude.{◌≡◌, ◌+◌, ◌*◌, ◌≤◌, IfEr
 ghost use Rattle.std.specs.List.{All};
 ghost use Rattle.region_map.specs.Platforms.{IsSound};
 ghost use Rattle.rig_trait.specs.Frames.{IsTold, Reads};
-ghost use Rattle.region_sets.specs.Fates.{region_in};
-ghost use Rattle.region_sets.specs.Modules.{dimm_of};
-ghost use Rattle.region_sets.specs.Regions.{IsOver};
+ghost use Rattle.region_labels.specs.Fates.{region_in};
+ghost use Rattle.region_labels.specs.Modules.{dimm_of};
+ghost use Rattle.region_labels.specs.Regions.{IsOver};
 ghost use Rattle.module_flips.specs.Flips.{IsSizedIn};
 ghost use Rattle.label_sets.specs.Kept.{HasFewMembers};
 ghost use Rattle.label_sets.specs.Loads.{HasCause, IsAmong};
@@ -17,8 +17,8 @@ use crate::free::{FreeExtents, free_in};
 use crate::load::{SetFault, load_modules};
 use crate::room::most_slots;
 use crate::sets::Sets;
+use region_labels::{LoadedModule, RegionLabels};
 use region_map::Platform;
-use region_sets::{LoadedModule, RegionLabels};
 use rig_trait::Rig;
 use std::alloc::{AllocError, Global};
 

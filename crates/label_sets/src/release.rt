@@ -4,23 +4,22 @@ ghost use Rattle.std.specs.Prelude.{◌≡◌, IfErr, IfOk, OnErr, OnOk, false, 
 ghost use Rattle.std.specs.List.{All};
 ghost use Rattle.std.specs.Result.{is_err};
 ghost use Rattle.rig_trait.specs.Frames.{FailsAt, IsTold, LeavesOnly, WritesTo};
-ghost use Rattle.module_labels.specs.Labels.{has};
-ghost use Rattle.region_sets.specs.Modules.{dimm_of};
+ghost use Rattle.label_codec.specs.ModuleLabels.{has};
+ghost use Rattle.region_labels.specs.Modules.{dimm_of};
 ghost use Rattle.module_flips.specs.Flips.{IsSizedIn};
 ghost use Rattle.module_flips.specs.Stops.{LeftIn};
 ghost use Rattle.module_flips.specs.Stored.{StandsIn};
-ghost use Rattle.module_sweeps.specs.Releases.{IsBeforeOrReleased, released_state};
-ghost use Rattle.module_sweeps.specs.Sweeps.{ChangesOnly};
+ghost use Rattle.module_flips.specs.Releases.{IsBeforeOrReleased, released_state};
+ghost use Rattle.module_flips.specs.Sweeps.{ChangesOnly};
 
 use crate::sets::Sets;
 use crate::sweep::seat_of;
-use module_flips::AreaFailed;
-use module_sweeps::release_labels;
+use module_flips::{AreaFailed, release_labels};
 use region_map::Platform;
 use rig_trait::Rig;
 
 impl Sets {
-    ghost use Rattle.region_sets.specs.Modules.{size_in};
+    ghost use Rattle.region_labels.specs.Modules.{size_in};
     ghost use Rattle.label_sets.specs.Releases.{CanReleaseIn};
     ghost use Rattle.label_sets.specs.Sets as sets;
     ghost use Rattle.label_sets.specs.Sets.{platform_in, state_in};

@@ -4,21 +4,21 @@ ghost use Rattle.std.specs.Prelude.{◌≡◌, IsSome, OnErr, OnOk, map};
 ghost use Rattle.std.specs.List.{All};
 ghost use Rattle.rig_trait.specs.Frames.{IsTold, LeavesOnly};
 ghost use Rattle.region_map.specs.Platforms.{IsSound, region_at};
-ghost use Rattle.region_sets.specs.Modules.{dimm_of};
-ghost use Rattle.region_sets.specs.Regions.{handles};
+ghost use Rattle.region_labels.specs.Modules.{dimm_of};
+ghost use Rattle.region_labels.specs.Regions.{handles};
 ghost use Rattle.module_flips.specs.Flips.{IsSizedIn};
 ghost use Rattle.module_flips.specs.Stops.{HasAreaCause, LeftIn, WritesAmong};
 ghost use Rattle.module_flips.specs.Stored.{StandsIn};
-ghost use Rattle.namespace_marking.specs.Renaming.{IsBeforeOrRenamed};
+ghost use Rattle.namespace_passes.specs.Renaming.{IsBeforeOrRenamed};
 
 use crate::sets::Sets;
 use module_flips::AreaFailed;
-use namespace_marking::change_first;
+use namespace_passes::change_first;
 use region_map::Platform;
 use rig_trait::Rig;
 
 impl Sets {
-    ghost use Rattle.region_sets.specs.Modules.{size_in};
+    ghost use Rattle.region_labels.specs.Modules.{size_in};
     ghost use Rattle.label_sets.specs.Sets as sets;
     ghost use Rattle.label_sets.specs.Sets.{platform_in, state_in};
     ghost use Rattle.label_sets.specs.Staging.{OfRegion};

@@ -2,13 +2,13 @@
 
 ghost use Rattle.std.specs.Prelude.{◌≡◌, OnOk, length, map};
 ghost use Rattle.std.specs.List.{All};
-ghost use Rattle.region_sets.specs.Modules.{module_in};
-ghost use Rattle.module_sweeps.specs.Sweeps.{HasSlotsWithin};
+ghost use Rattle.region_labels.specs.Modules.{module_in};
+ghost use Rattle.module_flips.specs.Sweeps.{HasSlotsWithin};
 ghost use Rattle.label_sets.specs.Room.{HasExtentRoom, HasLabelRoom, HaveExtentRoom};
 ghost use Rattle.label_sets.specs.Room.{without_room, without_spare};
 
 use extent_alloc::Extents;
-use region_sets::{LoadedModule, RegionLabels};
+use region_labels::{LoadedModule, RegionLabels};
 use std::alloc::AllocError;
 
 /// The greatest number of slots of a module.

@@ -3,17 +3,16 @@
 ghost use Rattle.std.specs.Prelude.{◌≡◌, OnErr, OnOk, false, map, true, vec_capacity};
 ghost use Rattle.std.specs.List.{All};
 ghost use Rattle.label_table.specs.Belonging.{IsDisjoint};
-ghost use Rattle.region_sets.specs.Fates.{platform_of, region_in};
-ghost use Rattle.region_sets.specs.Modules.{EachOnce};
-ghost use Rattle.region_sets.specs.Regions.{IsOver};
+ghost use Rattle.region_labels.specs.Fates.{platform_of, region_in};
+ghost use Rattle.region_labels.specs.Modules.{EachOnce};
+ghost use Rattle.region_labels.specs.Regions.{IsOver};
 ghost use Rattle.module_flips.specs.Flips.{HasLabelsInUse, IsOwn};
 ghost use Rattle.label_sets.specs.Kept.{HasFewMembers, IsKnownFree};
-ghost use Rattle.module_sweeps.specs.Sweeps.{HasSlotsWithin};
+ghost use Rattle.module_flips.specs.Sweeps.{HasSlotsWithin};
 
 use crate::free::FreeExtents;
 use crate::room::reserve_labels;
-use region_changes::SlotLabel;
-use region_sets::{LoadedModule, RegionLabels};
+use region_labels::{LoadedModule, RegionLabels, SlotLabel};
 use std::alloc::AllocError;
 use std::marker::Model;
 

@@ -5,15 +5,15 @@ ghost use Rattle.std.specs.List.{All};
 ghost use Rattle.rig_trait.specs.Frames.{IsTold, LeavesOnly};
 ghost use Rattle.region_map.specs.Platforms.{IsSound, region_at};
 ghost use Rattle.label_table.specs.Tables.{state, with_namespace};
-ghost use Rattle.region_sets.specs.Fates.{platform_of};
-ghost use Rattle.region_sets.specs.Modules.{dimm_of, labels_in};
-ghost use Rattle.region_sets.specs.Regions.{handles};
+ghost use Rattle.region_labels.specs.Fates.{platform_of};
+ghost use Rattle.region_labels.specs.Modules.{dimm_of, labels_in};
+ghost use Rattle.region_labels.specs.Regions.{handles};
 ghost use Rattle.module_flips.specs.Flips.{IsSizedIn};
 ghost use Rattle.module_flips.specs.Stops.{HasAreaCause, LeftIn, WritesAmong};
 ghost use Rattle.module_flips.specs.Stored.{StandsIn};
 ghost use Rattle.module_flips.specs.Together.{StaysTogether};
-ghost use Rattle.namespace_staging.specs.Staged.{IsBeforeOrWith, new_space};
-ghost use Rattle.namespace_staging.specs.Staging.{IsStaged};
+ghost use Rattle.namespace_passes.specs.Staged.{IsBeforeOrWith, new_space};
+ghost use Rattle.namespace_passes.specs.Staging.{IsStaged};
 ghost use Rattle.label_sets.specs.Kept.{IsKnownFree};
 ghost use Rattle.label_sets.specs.Staging.{CanStageAt};
 
@@ -21,14 +21,14 @@ use crate::free::FreeExtents;
 use crate::sets::Sets;
 use crate::views::place_of;
 use module_flips::AreaFailed;
-use namespace_staging::stage_labels;
+use namespace_passes::stage_labels;
+use region_labels::{LoadedModule, RegionLabels};
 use region_map::{Platform, Region};
-use region_sets::{LoadedModule, RegionLabels};
 use rig_trait::Rig;
 use view_types::Namespace;
 
 impl Sets {
-    ghost use Rattle.region_sets.specs.Modules.{size_in};
+    ghost use Rattle.region_labels.specs.Modules.{size_in};
     ghost use Rattle.label_sets.specs.Sets as sets;
     ghost use Rattle.label_sets.specs.Sets.{platform_in, state_in};
     ghost use Rattle.label_sets.specs.Staging.{CanStageIn, GivesSlots, OfRegion};

@@ -2,16 +2,16 @@
 
 ghost use Rattle.std.specs.Prelude.{◌≡◌, IfOk, Some};
 ghost use Rattle.label_table.specs.Statuses.{status};
-ghost use Rattle.region_sets.specs.Modules as loaded;
-ghost use Rattle.region_sets.specs.Regions.{IsOver};
-ghost use Rattle.region_sets.specs.Statuses.{shown_status};
+ghost use Rattle.region_labels.specs.Modules as loaded;
+ghost use Rattle.region_labels.specs.Regions.{IsOver};
+ghost use Rattle.region_labels.specs.Statuses.{shown_status};
 ghost use Rattle.label_sets.specs.Lookups.{TellsFree, in_region};
 ghost use Rattle.label_sets.specs.Sets.{labels_in};
 
 use crate::sets::Sets;
 use crate::views::place_of;
 use extent_alloc::Extents;
-use region_sets::{LoadedModule, RegionLabels};
+use region_labels::{LoadedModule, RegionLabels};
 use std::alloc::{AllocError, Global};
 use view_types::{Extent, List, Status};
 

@@ -4,25 +4,24 @@ ghost use Rattle.std.specs.Prelude.{◌≡◌, ◌<◌, IfErr, IsTrue, OnErr, On
 ghost use Rattle.std.specs.List.{All};
 ghost use Rattle.std.specs.Result.{is_err};
 ghost use Rattle.rig_trait.specs.Frames.{FailsAt, IsTold, LeavesOnly, WritesTo};
-ghost use Rattle.module_labels.specs.Labels.{is_ready};
+ghost use Rattle.label_codec.specs.ModuleLabels.{is_ready};
 ghost use Rattle.label_table.specs.Tables.{state};
-ghost use Rattle.region_sets.specs.declared.modules.LoadedModule.{LoadedModule};
-ghost use Rattle.region_sets.specs.Modules.{dimm_of, labels_in};
+ghost use Rattle.region_labels.specs.declared.modules.LoadedModule.{LoadedModule};
+ghost use Rattle.region_labels.specs.Modules.{dimm_of, labels_in};
 ghost use Rattle.module_flips.specs.Flips.{IsReadyArea, IsSizedIn};
 ghost use Rattle.module_flips.specs.Stored.{StandsIn};
 ghost use Rattle.module_flips.specs.Stops.{LeftIn};
-ghost use Rattle.module_sweeps.specs.Sweeps.{ChangesOnly};
+ghost use Rattle.module_flips.specs.Sweeps.{ChangesOnly};
 
 use crate::sets::Sets;
-use module_flips::AreaFailed;
-use module_sweeps::sweep_labels;
+use module_flips::{AreaFailed, sweep_labels};
+use region_labels::LoadedModule;
 use region_map::Platform;
-use region_sets::LoadedModule;
 use rig_trait::Rig;
 
 impl Sets {
-    ghost use Rattle.module_labels.specs.Labels.{IsBounded};
-    ghost use Rattle.region_sets.specs.Modules.{size_in};
+    ghost use Rattle.label_codec.specs.ModuleLabels.{IsBounded};
+    ghost use Rattle.region_labels.specs.Modules.{size_in};
     ghost use Rattle.label_sets.specs.Sets as sets;
     ghost use Rattle.label_sets.specs.Sets.{platform_in, state_in};
     ghost use Rattle.std.specs.Prelude.{ℕ};

@@ -2,21 +2,21 @@
 
 ghost use Rattle.std.specs.Prelude.{◌≡◌, ◌<◌, IfOk, find, is_some, length, map, slice_index_or};
 ghost use Rattle.std.specs.Option.{option_copied};
-ghost use Rattle.module_labels.specs.Labels.{is_ready};
+ghost use Rattle.label_codec.specs.ModuleLabels.{is_ready};
 ghost use Rattle.region_map.specs.declared.platform.Region.{Region};
-ghost use Rattle.region_sets.specs.Fates.{region_in};
+ghost use Rattle.region_labels.specs.Fates.{region_in};
 ghost use Rattle.label_table.specs.Namespaces.{namespaces};
 ghost use Rattle.label_table.specs.Statuses.{RegionStatus};
-ghost use Rattle.region_sets.specs.Modules.{is_of};
-ghost use Rattle.region_sets.specs.Statuses.{shown_status, space_in};
+ghost use Rattle.region_labels.specs.Modules.{is_of};
+ghost use Rattle.region_labels.specs.Statuses.{shown_status, space_in};
 ghost use Rattle.label_sets.specs.Sets.{labels_in, platform_in};
 ghost use Rattle.label_sets.specs.Views.{IsModuleView, IsPlaceOf, IsRegionView, ShowsFree, ViewsModule, ViewsRegion};
 ghost use Rattle.label_sets.specs.Views.{area_state, spare_at, where_ready};
 
 use crate::sets::Sets;
 use extent_alloc::Extents;
-use module_labels::AreaKind;
-use region_sets::{LoadedModule, RegionLabels, free_extents, held_labels, spare, unready_state};
+use label_codec::AreaKind;
+use region_labels::{LoadedModule, RegionLabels, free_extents, held_labels, spare, unready_state};
 use std::alloc::{AllocError, Global};
 use view_types::{AreaState, Extent, List, ModuleView, Namespace, RegionView, Status};
 

@@ -5,8 +5,8 @@ use Rattle.std.specs.List.{Contains}
 use Rattle.std.specs.Str.{bytes_eq}
 use Rattle.std.proofs.lemmas.Bool.{cases_eq, and_parts}
 use Rattle.label_codec.specs.declared.label.Label.{Label}
-use Rattle.module_labels.specs.Labels.{IsBounded, Labels, Module, count, has, is_ready, label_if, number, of_uuid, one}
-use Rattle.module_labels.proofs.Counting.{Slots, count-none, count-one, count-same}
+use Rattle.label_codec.specs.ModuleLabels.{IsBounded, Labels, Module, count, has, is_ready, label_if, number, of_uuid, one}
+use Rattle.label_codec.proofs.Counting.{Slots, count-none, count-one, count-same}
 use Rattle.region_map.specs.declared.platform.Member.{Member}
 use Rattle.region_map.specs.declared.platform.Region.{Region}
 use Rattle.region_map.specs.declared.platform.Platform.{Platform}

@@ -3,8 +3,8 @@ use Rattle.std.proofs.Common.{ℕ, cond, List, [], ◌∷◌, Option, Some, None
 use Rattle.std.specs.Prelude.{◌==◌, replicate}
 use Rattle.view_types.specs.Guids.{persistent_memory}
 use Rattle.label_codec.specs.declared.label.Label.{Label}
-use Rattle.module_labels.specs.declared.kind.AreaKind.TheVariants.{Missing, Ready}
-use Rattle.module_labels.specs.Labels.{Module, Labels}
+use Rattle.label_codec.specs.declared.kind.AreaKind.TheVariants.{Missing, Ready}
+use Rattle.label_codec.specs.ModuleLabels.{Module, Labels}
 use Rattle.region_map.specs.declared.platform.Member.{Member}
 use Rattle.region_map.specs.declared.platform.Region.{Region}
 use Rattle.region_map.specs.declared.platform.Platform.{Platform}

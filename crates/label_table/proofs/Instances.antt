@@ -5,9 +5,9 @@ use Rattle.std.specs.List.{Contains}
 use Rattle.std.proofs.lemmas.Bool.{cases_lt}
 use Rattle.label_codec.specs.declared.label.Label.{Label}
 use Rattle.label_codec.specs.Flags.{is_read_only, is_updating}
-use Rattle.module_labels.specs.declared.kind.AreaKind.TheVariants.{Uninit}
-use Rattle.module_labels.specs.Flips.{with_module, without_slots}
-use Rattle.module_labels.specs.Labels.{IsBounded, Labels, Module, has, label_if}
+use Rattle.label_codec.specs.declared.kind.AreaKind.TheVariants.{Uninit}
+use Rattle.label_codec.specs.ModuleChanges.{with_module, without_slots}
+use Rattle.label_codec.specs.ModuleLabels.{IsBounded, Labels, Module, has, label_if}
 use Rattle.region_map.specs.declared.platform.Member.{Member}
 use Rattle.region_map.specs.declared.platform.Region.{Region}
 use Rattle.label_table.specs.Belonging.{IsDisjoint, belongs, member_at}

@@ -4,8 +4,8 @@ use Rattle.std.specs.Prelude.{nat_lt}
 use Rattle.std.specs.List.{Contains}
 use Rattle.std.proofs.lemmas.Bool.{cases_lt, and_parts}
 use Rattle.label_codec.specs.declared.label.Label.{Label}
-use Rattle.module_labels.specs.Labels.{IsBounded, Labels, Module, count, has, is_ready, label_if, number, one}
-use Rattle.module_labels.proofs.Counting.{count-same, count-cases, count-one, one-some, count-least, count-none}
+use Rattle.label_codec.specs.ModuleLabels.{IsBounded, Labels, Module, count, has, is_ready, label_if, number, one}
+use Rattle.label_codec.proofs.Counting.{count-same, count-cases, count-one, one-some, count-least, count-none}
 use Rattle.region_map.specs.declared.platform.Member.{Member}
 use Rattle.region_map.specs.declared.platform.Region.{Region}
 use Rattle.region_map.specs.declared.platform.Platform.{Platform}

@@ -5,8 +5,8 @@ use Rattle.std.specs.List.{Contains}
 use Rattle.std.specs.Str.{bytes_eq}
 use Rattle.std.proofs.lemmas.Bool.{and_parts}
 use Rattle.label_codec.specs.declared.label.Label.{Label}
-use Rattle.module_labels.specs.Labels.{Labels, first_below, has, label_if}
-use Rattle.module_labels.proofs.Counting.{IsFirst, count-one, first_below-cases}
+use Rattle.label_codec.specs.ModuleLabels.{Labels, first_below, has, label_if}
+use Rattle.label_codec.proofs.Counting.{IsFirst, count-one, first_below-cases}
 use Rattle.region_map.specs.declared.platform.Member.{Member}
 use Rattle.region_map.specs.declared.platform.Region.{Region}
 use Rattle.region_map.specs.declared.platform.Platform.{Platform}

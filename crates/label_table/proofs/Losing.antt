@@ -4,8 +4,8 @@ use Rattle.std.specs.Prelude.{is_some}
 use Rattle.std.specs.List.{Contains}
 use Rattle.std.proofs.lemmas.Bool.{cases_eq, and_parts}
 use Rattle.label_codec.specs.declared.label.Label.{Label}
-use Rattle.module_labels.specs.Labels.{Labels, Module, has, number, of_uuid}
-use Rattle.module_labels.proofs.Counting.{count-le}
+use Rattle.label_codec.specs.ModuleLabels.{Labels, Module, has, number, of_uuid}
+use Rattle.label_codec.proofs.Counting.{count-le}
 use Rattle.region_map.specs.declared.platform.Member.{Member}
 use Rattle.region_map.specs.declared.platform.Region.{Region}
 use Rattle.region_map.specs.declared.platform.Platform.{Platform}

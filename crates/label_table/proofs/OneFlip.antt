@@ -3,8 +3,8 @@ use Rattle.std.proofs.Common.{◌≡◌, ◌≢◌, ◌⊎◌, inl, inr, ℕ, �
 use Rattle.std.specs.Prelude.{◌==◌}
 use Rattle.std.proofs.lemmas.Bool.{cases_eq}
 use Rattle.label_codec.specs.declared.label.Label.{Label}
-use Rattle.module_labels.specs.Flips.{with_label, with_module, without_slots}
-use Rattle.module_labels.specs.Labels.{IsBounded, Labels, Module, has, label_if}
+use Rattle.label_codec.specs.ModuleChanges.{with_label, with_module, without_slots}
+use Rattle.label_codec.specs.ModuleLabels.{IsBounded, Labels, Module, has, label_if}
 use Rattle.region_map.specs.declared.platform.Platform.{Platform}
 use Rattle.label_table.specs.Fates.{is_dead}
 use Rattle.label_table.specs.Flips.{IsConfined, LeavesOut, LosesDead, other_labels}

@@ -4,8 +4,8 @@ use Rattle.std.specs.Prelude.{◌==◌, ◌&&◌, is_some, slice_get}
 use Rattle.std.specs.Option.{option_flatten, option_or}
 use Rattle.std.proofs.lemmas.Bool.{cases_eq}
 use Rattle.label_codec.specs.declared.label.Label.{Label}
-use Rattle.module_labels.specs.Labels.{Module, first, first_below, has, label_if, number, of_uuid, one}
-use Rattle.module_labels.proofs.Counting.{IsFirst, Slots, count-none, count-one, count-same, first_below-cases}
+use Rattle.label_codec.specs.ModuleLabels.{Module, first, first_below, has, label_if, number, of_uuid, one}
+use Rattle.label_codec.proofs.Counting.{IsFirst, Slots, count-none, count-one, count-same, first_below-cases}
 use Rattle.label_table.specs.Plain.{HasOnly, IsOnly}
 use Rattle.label_table.specs.Wholes.{any_label}
 use Rattle.label_table.proofs.Confined.{number-none}

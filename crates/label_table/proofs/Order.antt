@@ -12,8 +12,8 @@ use Rattle.std.proofs.lemmas.Cmp.{nat_cmp_total, nat_list_cmp_total, on_total, t
 use Rattle.std.proofs.lemmas.List.Elements.{Contains-append_left, Contains-push, Contains-push_cases}
 use Rattle.std.proofs.lemmas.Map.Text.{is_eq-slice_cmp}
 use Rattle.label_codec.specs.declared.label.Label.{Label}
-use Rattle.module_labels.specs.Labels.{Labels, first_below, has, label_if}
-use Rattle.module_labels.proofs.Counting.{IsFirst, Slots, first_below-cases}
+use Rattle.label_codec.specs.ModuleLabels.{Labels, first_below, has, label_if}
+use Rattle.label_codec.proofs.Counting.{IsFirst, Slots, first_below-cases}
 use Rattle.region_map.specs.declared.platform.Member.{Member}
 use Rattle.region_map.specs.declared.platform.Region.{Region}
 use Rattle.label_table.specs.Wholes.{any_read_only, is_whole, labels_with, leading_among, leading_label}

@@ -6,8 +6,8 @@ use Rattle.std.specs.Option.{option_map_or}
 use Rattle.std.specs.Str.{bytes_eq}
 use Rattle.std.proofs.lemmas.Bool.{and_parts, cases_eq}
 use Rattle.label_codec.specs.declared.label.Label.{Label}
-use Rattle.module_labels.specs.Labels.{IsBounded, Labels, Module, has, is_ready, number, of_uuid}
-use Rattle.module_labels.proofs.Counting.{count-le}
+use Rattle.label_codec.specs.ModuleLabels.{IsBounded, Labels, Module, has, is_ready, number, of_uuid}
+use Rattle.label_codec.proofs.Counting.{count-le}
 use Rattle.region_map.specs.declared.platform.Member.{Member}
 use Rattle.region_map.specs.declared.platform.Region.{Region}
 use Rattle.region_map.specs.declared.platform.Platform.{Platform}

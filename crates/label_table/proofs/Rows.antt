@@ -1,8 +1,8 @@
 -- Worked rows, by computation.
 use Rattle.std.proofs.Common.{◌≡◌, ℕ, Bool, true, false, ◌&&◌, List, [], ◌∷◌, refl}
 use Rattle.std.specs.Prelude.{nat_lt, replicate}
-use Rattle.module_labels.specs.declared.kind.AreaKind.TheVariants.{Missing}
-use Rattle.module_labels.specs.Labels.{Labels, has}
+use Rattle.label_codec.specs.declared.kind.AreaKind.TheVariants.{Missing}
+use Rattle.label_codec.specs.ModuleLabels.{Labels, has}
 use Rattle.label_codec.specs.Flags.{is_updating}
 use Rattle.label_table.specs.Wholes.{any_label, is_whole}
 use Rattle.label_table.specs.Spaces.{Space, is_pending}

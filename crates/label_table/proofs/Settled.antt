@@ -4,8 +4,8 @@ use Rattle.std.specs.Prelude.{nat_lt, is_some}
 use Rattle.std.specs.List.{Contains}
 use Rattle.std.proofs.lemmas.Bool.{and_from, and_parts, and_right, cases_lt}
 use Rattle.label_codec.specs.declared.label.Label.{Label}
-use Rattle.module_labels.specs.Labels.{IsBounded, Labels, Module, count, has, is_ready, number, one}
-use Rattle.module_labels.proofs.Counting.{Slots, number-of_uuid}
+use Rattle.label_codec.specs.ModuleLabels.{IsBounded, Labels, Module, count, has, is_ready, number, one}
+use Rattle.label_codec.proofs.Counting.{Slots, number-of_uuid}
 use Rattle.region_map.specs.declared.platform.Region.{Region}
 use Rattle.region_map.specs.declared.platform.Platform.{Platform}
 use Rattle.label_table.specs.Belonging.{IsDisjoint, region_of}

@@ -6,8 +6,8 @@ use Rattle.std.specs.Option.{option_map_or}
 use Rattle.std.proofs.lemmas.Bool.{cases_eq, and_from}
 use Rattle.label_codec.specs.declared.label.Label.{Label}
 use Rattle.label_codec.specs.Flags.{is_read_only, is_updating}
-use Rattle.module_labels.specs.Labels.{Labels, Module, first_below, has, label_if, number, one}
-use Rattle.module_labels.proofs.Counting.{IsFirst, count-none, first_below-cases}
+use Rattle.label_codec.specs.ModuleLabels.{Labels, Module, first_below, has, label_if, number, one}
+use Rattle.label_codec.proofs.Counting.{IsFirst, count-none, first_below-cases}
 use Rattle.region_map.specs.declared.platform.Member.{Member}
 use Rattle.region_map.specs.declared.platform.Region.{Region}
 use Rattle.region_map.specs.declared.platform.Platform.{Platform}

@@ -5,8 +5,8 @@ use Rattle.std.specs.List.{Contains, list_all}
 use Rattle.std.proofs.lemmas.Bool.{and_parts}
 use Rattle.label_codec.specs.declared.label.Label.{Label}
 use Rattle.label_codec.specs.Flags.{is_read_only, is_updating}
-use Rattle.module_labels.specs.Labels.{Labels, Module, first, is_ready, number}
-use Rattle.module_labels.proofs.Counting.{IsAt, count-cases}
+use Rattle.label_codec.specs.ModuleLabels.{Labels, Module, first, is_ready, number}
+use Rattle.label_codec.proofs.Counting.{IsAt, count-cases}
 use Rattle.region_map.specs.declared.platform.Member.{Member}
 use Rattle.region_map.specs.declared.platform.Region.{Region}
 use Rattle.region_map.specs.declared.platform.Platform.{Platform}

@@ -2,7 +2,7 @@
 use Rattle.std.specs.Prelude.{ℕ, ◌-◌, Bool, false, not, ◌&&◌, List, Option, Some, None, is_some}
 use Rattle.label_codec.specs.declared.label.Label.{Label}
 use Rattle.label_codec.specs.Flags.{is_read_only, is_updating}
-use Rattle.module_labels.specs.Labels.{Labels, number}
+use Rattle.label_codec.specs.ModuleLabels.{Labels, number}
 use Rattle.region_map.specs.declared.platform.Region.{Region}
 use Rattle.region_map.specs.declared.platform.Platform.{Platform}
 use Rattle.label_table.specs.Belonging.{region_of}

@@ -3,8 +3,8 @@ use Rattle.std.specs.Prelude.{◌≡◌, ℕ, ◌==◌, Bool, false, List, Optio
 use Rattle.std.specs.Prelude.{slice_get}
 use Rattle.std.specs.Option.{option_flatten}
 use Rattle.label_codec.specs.declared.label.Label.{Label}
-use Rattle.module_labels.specs.declared.kind.AreaKind.TheVariants.{Missing}
-use Rattle.module_labels.specs.Labels.{Labels, Module, first, number, of_uuid}
+use Rattle.label_codec.specs.declared.kind.AreaKind.TheVariants.{Missing}
+use Rattle.label_codec.specs.ModuleLabels.{Labels, Module, first, number, of_uuid}
 use Rattle.label_table.specs.declared.plain.ModuleLabels.{ModuleLabels}
 use Rattle.label_table.specs.Wholes.{any_label}
 

@@ -4,8 +4,8 @@ use Rattle.std.specs.Prelude.{◌≡◌, ◌≢◌, ℕ, ◌+◌, ◌==◌, nat_
 use Rattle.std.specs.Prelude.{is_some, if◌then◌else◌}
 use Rattle.std.specs.List.{list_all, list_any}
 use Rattle.label_codec.specs.declared.label.Label.{Label}
-use Rattle.module_labels.specs.declared.kind.AreaKind.TheVariants.{Ready}
-use Rattle.module_labels.specs.Labels.{Labels, has, is_ready}
+use Rattle.label_codec.specs.declared.kind.AreaKind.TheVariants.{Ready}
+use Rattle.label_codec.specs.ModuleLabels.{Labels, has, is_ready}
 use Rattle.region_map.specs.declared.platform.Member.{Member}
 use Rattle.region_map.specs.declared.platform.Region.{Region}
 use Rattle.region_map.specs.declared.platform.Platform.{Platform}

@@ -2,7 +2,7 @@
 -- it.
 use Rattle.std.specs.Prelude.{ℕ, Bool, true, false, not, ◌&&◌, List, Option, Some, None}
 use Rattle.label_codec.specs.declared.label.Label.{Label}
-use Rattle.module_labels.specs.Labels.{Labels}
+use Rattle.label_codec.specs.ModuleLabels.{Labels}
 use Rattle.region_map.specs.declared.platform.Region.{Region}
 use Rattle.label_table.specs.Belonging.{offset_in}
 use Rattle.label_table.specs.Wholes.{any_read_only, any_updating, is_whole, is_whole_by, labels_with, leading_label}

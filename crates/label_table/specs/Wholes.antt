@@ -3,7 +3,7 @@ use Rattle.std.specs.Prelude.{ℕ, ◌==◌, nat_lt, Bool, true, false, not, ◌
 use Rattle.std.specs.List.{list_all, list_any}
 use Rattle.label_codec.specs.declared.label.Label.{Label}
 use Rattle.label_codec.specs.Flags.{is_read_only, is_updating}
-use Rattle.module_labels.specs.Labels.{Labels, first, is_ready, number, of_uuid}
+use Rattle.label_codec.specs.ModuleLabels.{Labels, first, is_ready, number, of_uuid}
 use Rattle.region_map.specs.declared.platform.Member.{Member}
 use Rattle.region_map.specs.declared.platform.Region.{Region}
 use Rattle.label_table.specs.Belonging.{belongs, offset_in}

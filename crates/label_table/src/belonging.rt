@@ -2,7 +2,7 @@
 
 ghost use Rattle.std.specs.Prelude.{◌≡◌};
 ghost use Rattle.std.specs.Option.{option_copied};
-ghost use Rattle.module_labels.specs.Labels.{has};
+ghost use Rattle.label_codec.specs.ModuleLabels.{has};
 ghost use Rattle.label_table.specs.Belonging.{belongs, is_persistent, is_shared_range, lies_within, member_at};
 ghost use Rattle.label_table.specs.Belonging.{names_set, offset_in, region_of};
 

@@ -4,7 +4,7 @@ ghost use Rattle.std.specs.Prelude.{◌≡◌, ◌≢◌, ℕ, ◌+◌, ◌<◌,
 ghost use Rattle.std.specs.List.{Contains};
 ghost use Rattle.view_types.specs.declared.extents.Extent.{Extent};
 ghost use Rattle.label_codec.specs.declared.label.Label.{Label};
-ghost use Rattle.module_labels.specs.Labels.{IsBounded, Labels};
+ghost use Rattle.label_codec.specs.ModuleLabels.{IsBounded, Labels};
 ghost use Rattle.region_map.specs.declared.platform.Member.{Member};
 ghost use Rattle.region_map.specs.declared.platform.Platform.{Platform};
 ghost use Rattle.region_map.specs.declared.platform.Region.{Region};

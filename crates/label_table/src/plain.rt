@@ -3,7 +3,7 @@
 ghost use Rattle.std.specs.Prelude.{◌≡◌, Some, nat_lt, find, is_some, ◌==◌};
 ghost use Rattle.std.specs.List.{list_all, list_any};
 ghost use Rattle.std.specs.Option.{option_copied};
-ghost use Rattle.module_labels.specs.Labels.{first, has, is_ready, label_if, number, of_uuid};
+ghost use Rattle.label_codec.specs.ModuleLabels.{first, has, is_ready, label_if, number, of_uuid};
 ghost use Rattle.label_codec.specs.Flags.{is_read_only};
 ghost use Rattle.region_map.specs.declared.platform.Member.{Member};
 ghost use Rattle.label_table.specs.Belonging.{region_of};
@@ -14,8 +14,7 @@ ghost use Rattle.label_table.specs.Wholes.{is_whole, is_whole_after, label_count
 ghost use Rattle.label_table.specs.Wholes.{sizes_agree};
 
 use crate::belonging::{belongs, has_uuid, offset_in, region_of};
-use label_codec::Label;
-use module_labels::AreaKind;
+use label_codec::{AreaKind, Label};
 use region_map::{Member, Platform, Region};
 use view_types::List;
 

@@ -1,6 +1,5 @@
 use crate::two_ways::{UUID, label, module, platform, region};
-use label_codec::{LOCAL, READ_ONLY, UPDATING};
-use module_labels::AreaKind;
+use label_codec::{AreaKind, LOCAL, READ_ONLY, UPDATING};
 use std::test::Fail;
 use table_steps::{
     bad_size, held_count, held_fixed, initialise, is_held, no_slots, not_held, region_lacks_area,

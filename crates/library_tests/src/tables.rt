@@ -1,7 +1,6 @@
 use crate::two_ways::{UUID, label, module, platform};
-use label_codec::UPDATING;
+use label_codec::{AreaKind, UPDATING};
 use label_table::{belongs, has_uuid, is_dead, is_doubled, is_whole, offset_in, region_of};
-use module_labels::AreaKind;
 use std::test::Fail;
 
 #[test]

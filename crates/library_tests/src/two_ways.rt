@@ -2,10 +2,8 @@
 
 ghost use Rattle.std.specs.Prelude.{◌≡◌, IfOk};
 ghost use Rattle.table_steps.specs.Plain.{HasFewModules};
-
-use label_codec::Label;
+use label_codec::{AreaKind, Label};
 use label_table::ModuleLabels;
-use module_labels::AreaKind;
 use region_map::{Member, Platform, Region};
 use std::alloc::AllocError;
 use view_types::{List, PERSISTENT_MEMORY};

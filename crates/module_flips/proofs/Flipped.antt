@@ -4,8 +4,8 @@ use Rattle.rig_trait.specs.declared.shown.Shown.{Ghosts}
 use Rattle.rig_trait.specs.Frames.{LeavesOnly}
 use Rattle.label_area.specs.Flips.{LeftByFlip, after_free}
 use Rattle.label_area.specs.LoadedAreas.{LoadedArea}
-use Rattle.region_sets.specs.declared.modules.ModuleArea.{ModuleArea}
-use Rattle.region_sets.specs.declared.modules.ModuleArea.TheVariants.{Ready}
+use Rattle.region_labels.specs.declared.modules.ModuleArea.{ModuleArea}
+use Rattle.region_labels.specs.declared.modules.ModuleArea.TheVariants.{Ready}
 use Rattle.module_flips.specs.Flips.{standing_in, with_free}
 
 -- what a stop leaves

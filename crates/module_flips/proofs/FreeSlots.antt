@@ -9,10 +9,10 @@ use Rattle.label_codec.specs.declared.label.Label.{Label}
 use Rattle.label_area.specs.Flips.{HasFree, Standing, first_slot, is_among, replaced}
 use Rattle.label_area.specs.LoadedAreas.{LoadedArea, is_used}
 use Rattle.label_area.proofs.FirstSlot.{free_count-none}
-use Rattle.region_sets.specs.declared.modules.LoadedModule.{LoadedModule}
-use Rattle.region_sets.specs.declared.modules.ModuleArea.{ModuleArea}
-use Rattle.region_sets.specs.declared.modules.ModuleArea.TheVariants.{Missing, WrongSize, Uninit, Foreign, Ready}
-use Rattle.region_sets.specs.Modules.{module_in}
+use Rattle.region_labels.specs.declared.modules.LoadedModule.{LoadedModule}
+use Rattle.region_labels.specs.declared.modules.ModuleArea.{ModuleArea}
+use Rattle.region_labels.specs.declared.modules.ModuleArea.TheVariants.{Missing, WrongSize, Uninit, Foreign, Ready}
+use Rattle.region_labels.specs.Modules.{module_in}
 use Rattle.module_flips.specs.Flips.{HasFreeIn, HasLabelsInUse, IsReplaced, first_slot_in, is_used_in, standing_in, with_put}
 use Rattle.module_flips.specs.Together.{free_slots}
 

@@ -10,22 +10,22 @@ use Rattle.std.proofs.lemmas.List.Folds.{list_any_at}
 use Rattle.rig_trait.specs.declared.shown.Shown.{Ghosts}
 use Rattle.rig_trait.specs.Frames.{LeavesOnly}
 use Rattle.rig_trait.specs.Areas.{Areas, OthersKept}
-use Rattle.module_labels.specs.Flips.{with_module, without_slots}
-use Rattle.module_labels.specs.Labels.{Module}
+use Rattle.label_codec.specs.ModuleChanges.{with_module, without_slots}
+use Rattle.label_codec.specs.ModuleLabels.{Module}
 use Rattle.label_area.specs.Flips.{LeftByFlip, Standing, is_among}
 use Rattle.label_area.specs.Modules.{area_kind, module_of}
-use Rattle.region_sets.specs.declared.modules.LoadedModule.{LoadedModule}
-use Rattle.region_sets.specs.declared.modules.ModuleArea.{ModuleArea}
-use Rattle.region_sets.specs.declared.modules.ModuleArea.TheVariants.{Missing, WrongSize, Uninit, Foreign, Ready}
-use Rattle.region_sets.specs.declared.region.RegionLabels.{RegionLabels}
-use Rattle.region_sets.specs.Modules.{EachOnce, dimm_of, labels_in, module_in}
-use Rattle.region_sets.specs.Regions.{IsOver}
-use Rattle.region_changes.specs.declared.by_slot.SlotLabel.{SlotLabel}
-use Rattle.region_changes.specs.Changes.{IsChangedAt, dimm_at}
-use Rattle.region_changes.specs.Flips.{LosesLabels, StoodBeforeFree}
-use Rattle.region_changes.specs.SlotLabels.{slot_labels}
-use Rattle.region_changes.proofs.AreaFlips.{IsBoundedModule, loses-slots}
-use Rattle.region_changes.proofs.ChangedModules.{changed-set, dimm-at, labels-after, labels-at}
+use Rattle.region_labels.specs.declared.modules.LoadedModule.{LoadedModule}
+use Rattle.region_labels.specs.declared.modules.ModuleArea.{ModuleArea}
+use Rattle.region_labels.specs.declared.modules.ModuleArea.TheVariants.{Missing, WrongSize, Uninit, Foreign, Ready}
+use Rattle.region_labels.specs.declared.region.RegionLabels.{RegionLabels}
+use Rattle.region_labels.specs.Modules.{EachOnce, dimm_of, labels_in, module_in}
+use Rattle.region_labels.specs.Regions.{IsOver}
+use Rattle.region_labels.specs.declared.by_slot.SlotLabel.{SlotLabel}
+use Rattle.region_labels.specs.Changes.{IsChangedAt, dimm_at}
+use Rattle.region_labels.specs.Flips.{LosesLabels, StoodBeforeFree}
+use Rattle.region_labels.specs.SlotLabels.{slot_labels}
+use Rattle.region_labels.proofs.AreaFlips.{IsBoundedModule, loses-slots}
+use Rattle.region_labels.proofs.ChangedModules.{changed-set, dimm-at, labels-after, labels-at}
 use Rattle.module_flips.specs.Flips.{CanFree, HasLabelsInUse, is_used_by, standing_in, with_free, without_slots_at}
 use Rattle.module_flips.specs.Stored.{StandsIn, StoredAs}
 use Rattle.module_flips.specs.Stops.{IsOneOf, LeftIn}

@@ -6,3 +6,12 @@ pub mod Freed
 pub mod FreeSlots
 pub mod Put
 pub mod Together
+pub mod Slots
+pub mod Freeing
+pub mod Swept
+pub mod Sweeping
+pub mod Unwanted
+pub mod Released
+pub mod FreedModules
+pub mod SweptModules
+pub mod ReleasedModules

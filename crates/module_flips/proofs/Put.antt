@@ -9,23 +9,23 @@ use Rattle.std.proofs.lemmas.List.Folds.{list_any_at}
 use Rattle.rig_trait.specs.declared.shown.Shown.{Ghosts}
 use Rattle.rig_trait.specs.Frames.{LeavesOnly}
 use Rattle.label_codec.specs.declared.label.Label.{Label}
-use Rattle.module_labels.specs.Flips.{with_module, without_slots}
-use Rattle.module_labels.specs.Flips as labels_flip
-use Rattle.module_labels.specs.Labels.{Module}
+use Rattle.label_codec.specs.ModuleChanges.{with_module, without_slots}
+use Rattle.label_codec.specs.ModuleChanges as labels_flip
+use Rattle.label_codec.specs.ModuleLabels.{Module}
 use Rattle.label_area.specs.Flips.{LeftByFlip, Standing, after_put, at_slot, is_among, replaced}
 use Rattle.label_area.specs.LoadedAreas.{LoadedArea}
-use Rattle.region_sets.specs.declared.modules.LoadedModule.{LoadedModule}
-use Rattle.region_sets.specs.declared.modules.ModuleArea.{ModuleArea}
-use Rattle.region_sets.specs.declared.modules.ModuleArea.TheVariants.{Ready}
-use Rattle.region_sets.specs.declared.region.RegionLabels.{RegionLabels}
-use Rattle.region_sets.specs.Modules.{EachOnce, dimm_of, labels_in, module_in}
-use Rattle.region_sets.specs.Regions.{IsOver}
-use Rattle.region_changes.specs.declared.by_slot.SlotLabel.{SlotLabel}
-use Rattle.region_changes.specs.Changes.{dimm_at}
-use Rattle.region_changes.specs.Flips.{LosesLabels, ReplacesLabel, StoodBeforePut, lost_labels}
-use Rattle.region_changes.specs.SlotLabels.{AreApart, replaced_label, slot_labels}
-use Rattle.region_changes.proofs.AreaFlips.{loses-slots}
-use Rattle.region_changes.proofs.ChangedModules.{labels-after}
+use Rattle.region_labels.specs.declared.modules.LoadedModule.{LoadedModule}
+use Rattle.region_labels.specs.declared.modules.ModuleArea.{ModuleArea}
+use Rattle.region_labels.specs.declared.modules.ModuleArea.TheVariants.{Ready}
+use Rattle.region_labels.specs.declared.region.RegionLabels.{RegionLabels}
+use Rattle.region_labels.specs.Modules.{EachOnce, dimm_of, labels_in, module_in}
+use Rattle.region_labels.specs.Regions.{IsOver}
+use Rattle.region_labels.specs.declared.by_slot.SlotLabel.{SlotLabel}
+use Rattle.region_labels.specs.Changes.{dimm_at}
+use Rattle.region_labels.specs.Flips.{LosesLabels, ReplacesLabel, StoodBeforePut, lost_labels}
+use Rattle.region_labels.specs.SlotLabels.{AreApart, replaced_label, slot_labels}
+use Rattle.region_labels.proofs.AreaFlips.{loses-slots}
+use Rattle.region_labels.proofs.ChangedModules.{labels-after}
 use Rattle.module_flips.specs.Flips.{CanPut, first_slot_in, standing_in, with_put, with_put_at}
 use Rattle.module_flips.specs.Stored.{StandsIn}
 use Rattle.module_flips.specs.Stops.{IsOneOf, LeftIn}

@@ -4,10 +4,10 @@ use Rattle.std.specs.Prelude.{◌==◌, ◌||◌, find}
 use Rattle.std.specs.List.{All, list_any}
 use Rattle.std.proofs.lemmas.List.Elements.{All-head, All-tail}
 use Rattle.rig_trait.specs.Areas.{Areas}
-use Rattle.module_labels.specs.declared.kind.AreaKind.TheVariants as kind
+use Rattle.label_codec.specs.declared.kind.AreaKind.TheVariants as kind
 use Rattle.label_area.specs.Modules.{module_at}
-use Rattle.region_sets.specs.declared.modules.LoadedModule.{LoadedModule}
-use Rattle.region_sets.specs.Modules.{dimm_of, is_of, labels_in, module_or_missing, without_labels}
+use Rattle.region_labels.specs.declared.modules.LoadedModule.{LoadedModule}
+use Rattle.region_labels.specs.Modules.{dimm_of, is_of, labels_in, module_or_missing, without_labels}
 use Rattle.module_flips.specs.Stored.{StandsIn, stored_labels}
 use Rattle.module_flips.proofs.Stored.{stands-module}
 

@@ -8,8 +8,8 @@ use Rattle.rig_trait.specs.Areas.{Areas, size_in}
 use Rattle.rig_trait.specs.Frames.{FailsAt}
 use Rattle.index_block.specs.declared.geometry.Geometry.{Geometry}
 use Rattle.index_block.specs.Geometry.{geometry_of}
-use Rattle.module_labels.specs.declared.kind.AreaKind.{AreaKind}
-use Rattle.module_labels.specs.declared.kind.AreaKind.TheVariants as kind
+use Rattle.label_codec.specs.declared.kind.AreaKind.{AreaKind}
+use Rattle.label_codec.specs.declared.kind.AreaKind.TheVariants as kind
 use Rattle.label_area.specs.declared.blocks.Current.{Current}
 use Rattle.label_area.specs.declared.layouts.Layouts.{Layouts}
 use Rattle.label_area.specs.declared.load.AreaFault.{AreaFault}
@@ -21,11 +21,11 @@ use Rattle.label_area.specs.LoadedAreas.{IsSound, LoadedArea}
 use Rattle.label_area.specs.Loads.{Loads}
 use Rattle.label_area.specs.Modules.{area_kind, live_by, module_at, module_of, slots_by, kind_by_layouts}
 use Rattle.label_area.proofs.Shown.{ready_is}
-use Rattle.region_sets.specs.declared.modules.LoadedModule.{LoadedModule}
-use Rattle.region_sets.specs.declared.modules.ModuleArea.{ModuleArea}
-use Rattle.region_sets.specs.declared.modules.ModuleArea.TheVariants.{Missing, WrongSize, Uninit, Foreign, Ready}
-use Rattle.region_sets.specs.Modules.{module_in, size_of_area, without_labels}
-use Rattle.region_sets.specs.Modules as loaded
+use Rattle.region_labels.specs.declared.modules.LoadedModule.{LoadedModule}
+use Rattle.region_labels.specs.declared.modules.ModuleArea.{ModuleArea}
+use Rattle.region_labels.specs.declared.modules.ModuleArea.TheVariants.{Missing, WrongSize, Uninit, Foreign, Ready}
+use Rattle.region_labels.specs.Modules.{module_in, size_of_area, without_labels}
+use Rattle.region_labels.specs.Modules as loaded
 use Rattle.module_flips.specs.Flips.{HasLabelsInUse, IsAreaOf, IsSizedIn}
 use Rattle.module_flips.specs.Stored.{StandsIn, StoredAs}
 

@@ -7,14 +7,14 @@ use Rattle.label_codec.specs.declared.label.Label.{Label}
 use Rattle.label_table.specs.Belonging.{IsDisjoint}
 use Rattle.label_area.specs.Flips.{Standing, is_among, replaced}
 use Rattle.region_map.specs.declared.platform.Region.{Region}
-use Rattle.region_sets.specs.declared.modules.LoadedModule.{LoadedModule}
-use Rattle.region_sets.specs.declared.region.RegionLabels.{RegionLabels}
-use Rattle.region_sets.specs.Fates.{region_in, with_regions}
-use Rattle.region_sets.specs.Modules.{EachOnce, dimm_of, module_in, size_in}
-use Rattle.region_sets.specs.Regions.{IsOver}
-use Rattle.region_changes.specs.Changes.{IsChangedAt}
-use Rattle.region_changes.specs.Rooms.{KeepsRegion}
-use Rattle.region_changes.proofs.ChangedModules.{handles-same, once-after}
+use Rattle.region_labels.specs.declared.modules.LoadedModule.{LoadedModule}
+use Rattle.region_labels.specs.declared.region.RegionLabels.{RegionLabels}
+use Rattle.region_labels.specs.Fates.{region_in, with_regions}
+use Rattle.region_labels.specs.Modules.{EachOnce, dimm_of, module_in, size_in}
+use Rattle.region_labels.specs.Regions.{IsOver}
+use Rattle.region_labels.specs.Changes.{IsChangedAt}
+use Rattle.region_labels.specs.Rooms.{KeepsRegion}
+use Rattle.region_labels.proofs.ChangedModules.{handles-same, once-after}
 use Rattle.module_flips.specs.Flips.{HasLabelsInUse, IsOwn, IsPutAt, first_slot_in, standing_in, with_put}
 use Rattle.module_flips.proofs.Freed.{at-seat, changed, new-at}
 use Rattle.module_flips.specs.Together.{IsTogether, StaysTogether, slots_in}

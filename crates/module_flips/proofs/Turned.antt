@@ -8,13 +8,13 @@ use Rattle.rig_trait.specs.Areas.{Areas}
 use Rattle.rig_trait.specs.Frames.{LeavesOnly}
 use Rattle.rig_trait.specs.Records.{CrashRecord}
 use Rattle.rig_trait.proofs.Moments.{joined, started, weakened}
-use Rattle.module_labels.specs.Flips.{with_module}
-use Rattle.module_labels.specs.Labels.{Labels}
-use Rattle.module_labels.specs.declared.kind.AreaKind.TheVariants as kind
+use Rattle.label_codec.specs.ModuleChanges.{with_module}
+use Rattle.label_codec.specs.ModuleLabels.{Labels}
+use Rattle.label_codec.specs.declared.kind.AreaKind.TheVariants as kind
 use Rattle.label_area.specs.Fair.{IsFair}
 use Rattle.label_area.specs.Flips.{LeftByFlip, Standing}
 use Rattle.label_area.specs.Modules.{module_at, module_of}
-use Rattle.region_sets.specs.Modules.{without_labels}
+use Rattle.region_labels.specs.Modules.{without_labels}
 use Rattle.module_flips.specs.Stored.{stored_labels}
 use Rattle.module_flips.specs.Stops.{LeftIn}
 

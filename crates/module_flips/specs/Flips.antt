@@ -4,19 +4,19 @@ use Rattle.std.specs.Prelude.{slice_index_or}
 use Rattle.std.specs.List.{All}
 use Rattle.rig_trait.specs.Areas.{Areas, size_in}
 use Rattle.label_codec.specs.declared.label.Label.{Label}
-use Rattle.module_labels.specs.Flips as labels_flip
-use Rattle.module_labels.specs.Flips.{with_module, without_slots}
-use Rattle.module_labels.specs.Labels.{Labels}
+use Rattle.label_codec.specs.ModuleChanges as labels_flip
+use Rattle.label_codec.specs.ModuleChanges.{with_module, without_slots}
+use Rattle.label_codec.specs.ModuleLabels.{Labels}
 use Rattle.label_area.specs.Flips.{HasFree, Standing, at_slot, first_slot, is_among, replaced, with_label}
 use Rattle.label_area.specs.LoadedAreas.{is_used}
-use Rattle.region_sets.specs.declared.modules.LoadedModule.{LoadedModule}
-use Rattle.region_sets.specs.declared.modules.ModuleArea.{ModuleArea}
-use Rattle.region_sets.specs.declared.modules.ModuleArea.TheVariants.{Missing, WrongSize, Uninit, Foreign, Ready}
-use Rattle.region_sets.specs.Modules.{module_in}
-use Rattle.region_sets.specs.Modules as loaded
-use Rattle.region_changes.specs.declared.by_slot.SlotLabel.{SlotLabel}
-use Rattle.region_changes.specs.Changes.{IsChangedAt}
-use Rattle.region_changes.specs.SlotLabels.{AreApart, slot_labels}
+use Rattle.region_labels.specs.declared.modules.LoadedModule.{LoadedModule}
+use Rattle.region_labels.specs.declared.modules.ModuleArea.{ModuleArea}
+use Rattle.region_labels.specs.declared.modules.ModuleArea.TheVariants.{Missing, WrongSize, Uninit, Foreign, Ready}
+use Rattle.region_labels.specs.Modules.{module_in}
+use Rattle.region_labels.specs.Modules as loaded
+use Rattle.region_labels.specs.declared.by_slot.SlotLabel.{SlotLabel}
+use Rattle.region_labels.specs.Changes.{IsChangedAt}
+use Rattle.region_labels.specs.SlotLabels.{AreApart, slot_labels}
 
 -- a Ready area is that of the module with this device handle
 abbrev pub IsAreaOf : ℕ → ModuleArea → Type 0

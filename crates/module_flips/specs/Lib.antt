@@ -2,3 +2,5 @@ pub mod Flips
 pub mod Stored
 pub mod Stops
 pub mod Together
+pub mod Sweeps
+pub mod Releases

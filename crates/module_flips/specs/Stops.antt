@@ -6,7 +6,7 @@ use Rattle.rig_trait.specs.Frames.{FailsAt, IsTold, SaysNothing}
 use Rattle.rig_trait.specs.Records.{CrashRecord}
 use Rattle.label_area.specs.Fair.{IsFair}
 use Rattle.label_area.specs.Flips.{is_among}
-use Rattle.module_labels.specs.Labels.{Labels}
+use Rattle.label_codec.specs.ModuleLabels.{Labels}
 use Rattle.module_flips.specs.declared.flips.AreaFailed.{AreaFailed}
 use Rattle.module_flips.specs.Stored.{stored_labels}
 

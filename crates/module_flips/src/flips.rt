@@ -5,12 +5,12 @@ ghost use Rattle.std.specs.List.{All, AllZip};
 ghost use Rattle.std.specs.Result.{is_err};
 ghost use Rattle.rig_trait.specs.Frames.{FailsAt, IsTold, LeavesOnly, WritesTo};
 ghost use Rattle.label_area.specs.Flips.{LeftByFlip, replaced};
-ghost use Rattle.region_sets.specs.declared.modules.LoadedModule.{LoadedModule};
-ghost use Rattle.region_sets.specs.Modules.{EachOnce, dimm_of, labels_in, module_in, size_in};
-ghost use Rattle.region_sets.specs.Regions.{IsOver};
-ghost use Rattle.region_changes.specs.Changes.{dimm_at};
-ghost use Rattle.region_changes.specs.Rooms.{HasRoomFor, KeepsRegion, room_after_free, room_after_put};
-ghost use Rattle.region_changes.specs.SlotLabels.{replaced_label};
+ghost use Rattle.region_labels.specs.declared.modules.LoadedModule.{LoadedModule};
+ghost use Rattle.region_labels.specs.Modules.{EachOnce, dimm_of, labels_in, module_in, size_in};
+ghost use Rattle.region_labels.specs.Regions.{IsOver};
+ghost use Rattle.region_labels.specs.Changes.{dimm_at};
+ghost use Rattle.region_labels.specs.Rooms.{HasRoomFor, KeepsRegion, room_after_free, room_after_put};
+ghost use Rattle.region_labels.specs.SlotLabels.{replaced_label};
 ghost use Rattle.module_flips.specs.Flips.{CanFree, IsFreedAt, IsOwn, IsReadyArea, IsSizedIn, is_used_in, standing_in};
 ghost use Rattle.module_flips.specs.Flips.{HasFreeIn, IsPutAt, IsReplaced, first_slot_in, with_free, with_put};
 ghost use Rattle.module_flips.specs.Flips.{with_put_at, without_slots_at};
@@ -19,8 +19,9 @@ ghost use Rattle.module_flips.specs.Stops.{IsOneOf, LeftIn};
 ghost use Rattle.module_flips.specs.Together.{IsTogether, StaysTogether, free_slots};
 
 use label_codec::Label;
-use region_changes::{SlotLabel, follow_free, follow_put, slot_label};
-use region_sets::{LoadedModule, ModuleArea, RegionLabels};
+use region_labels::{
+    LoadedModule, ModuleArea, RegionLabels, SlotLabel, follow_free, follow_put, slot_label,
+};
 use rig_trait::Rig;
 
 /// The rig failed, at the area of this module.

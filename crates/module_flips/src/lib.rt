@@ -3,5 +3,10 @@
 #![tactic(auto)]
 
 mod flips;
+mod lists;
+mod release;
+mod sweep;
 
 pub use flips::{AreaFailed, free_at, put_at};
+pub use release::release_labels;
+pub use sweep::sweep_labels;

@@ -7,7 +7,7 @@ use Rattle.std.specs.Option.{option_and_then, unwrap_or}
 use Rattle.view_types.specs.declared.extents.Extent.{Extent}
 use Rattle.view_types.specs.declared.refusal.Refusal.TheVariants.{Unhealed}
 use Rattle.view_types.specs.Intervals.{IsFirstFit, NoneFits, is_free}
-use Rattle.module_labels.specs.Labels.{Labels}
+use Rattle.label_codec.specs.ModuleLabels.{Labels}
 use Rattle.region_map.specs.declared.platform.Member.{Member}
 use Rattle.region_map.specs.declared.platform.Platform.{Platform}
 use Rattle.region_map.specs.declared.platform.Region.{Region}
@@ -16,15 +16,15 @@ use Rattle.label_table.specs.Division.{AreFreeExtents, alignment, is_common_free
 use Rattle.label_table.specs.Fates.{spare}
 use Rattle.label_table.specs.Namespaces.{namespaces}
 use Rattle.label_table.specs.Spaces.{Space, is_pending}
-use Rattle.region_sets.specs.declared.modules.LoadedModule.{LoadedModule}
-use Rattle.region_sets.specs.declared.modules.ModuleArea.{ModuleArea}
-use Rattle.region_sets.specs.declared.modules.ModuleArea.TheVariants.{Missing, WrongSize, Uninit, Foreign, Ready}
-use Rattle.module_labels.specs.Labels.{number}
+use Rattle.region_labels.specs.declared.modules.LoadedModule.{LoadedModule}
+use Rattle.region_labels.specs.declared.modules.ModuleArea.{ModuleArea}
+use Rattle.region_labels.specs.declared.modules.ModuleArea.TheVariants.{Missing, WrongSize, Uninit, Foreign, Ready}
+use Rattle.label_codec.specs.ModuleLabels.{number}
 use Rattle.label_table.specs.Fates.{is_dead}
-use Rattle.region_sets.specs.Fates.{with_regions}
-use Rattle.region_sets.specs.Held.{spare_in}
-use Rattle.region_sets.specs.Modules as loaded
-use Rattle.region_sets.specs.Modules.{is_of, module_in, module_or_missing}
+use Rattle.region_labels.specs.Fates.{with_regions}
+use Rattle.region_labels.specs.Held.{spare_in}
+use Rattle.region_labels.specs.Modules as loaded
+use Rattle.region_labels.specs.Modules.{is_of, module_in, module_or_missing}
 use Rattle.label_table.proofs.ListTests.{eq_true, find-some, lt_from, never}
 use Rattle.label_sets.specs.Lookups.{FitsFirst, FitsFirstIn, IsFitIn}
 use Rattle.label_sets.specs.Sets.{StoredSets, labels_in, platform_in}
@@ -34,7 +34,7 @@ use Rattle.recovery.specs.Recovery.{first_full, pending_count, unhealed_at}
 use Rattle.table_steps.specs.declared.change.Change.TheVariants.{Create}
 use Rattle.table_steps.specs.declared.change.NewNamespace.{NewNamespace}
 use Rattle.table_steps.specs.Create.{AreFreeOf, create_refusals, made, part_length}
-use Rattle.namespace_staging.specs.Staged.{new_space}
+use Rattle.namespace_passes.specs.Staged.{new_space}
 use Rattle.table_steps.specs.Refusals.{any_pending, first_below, first_of, unhealed_in}
 use Rattle.table_steps.proofs.Accepted.{IsUnrefused, unrefused}
 use Rattle.table_steps.proofs.Lists.{AreNone, first-none, map-none}

@@ -6,13 +6,13 @@ use Rattle.view_types.specs.declared.refusal.Refusal.{Refusal}
 use Rattle.view_types.specs.declared.reply.Reply.{Reply}
 use Rattle.view_types.specs.declared.reply.Reply.TheVariants.{Destroyed, Refused, Renamed}
 use Rattle.cmd_words.specs.declared.name_keys.NameKey.{NameKey}
-use Rattle.module_labels.specs.Labels.{Labels}
+use Rattle.label_codec.specs.ModuleLabels.{Labels}
 use Rattle.region_map.specs.declared.platform.Platform.{Platform}
 use Rattle.region_map.specs.declared.platform.Region.{Region}
 use Rattle.region_map.specs.Platforms.{region_at}
 use Rattle.label_table.specs.Tables.{State, state, table}
-use Rattle.region_sets.specs.Regions.{handles}
-use Rattle.region_sets.specs.Statuses.{space_in}
+use Rattle.region_labels.specs.Regions.{handles}
+use Rattle.region_labels.specs.Statuses.{space_in}
 use Rattle.label_sets.specs.Sets.{StoredSets, labels_in, platform_in, state_in}
 use Rattle.table_steps.specs.Changes.{IsDoneBy}
 use Rattle.table_steps.specs.Destroy.{Destroys, IsDestroyed, destroy_refusals, with_destroyed}

@@ -1,12 +1,12 @@
 -- What the passes of a destroy and of a rename make of the state, the one behind the other.
 use Rattle.std.proofs.Common.{◌≡◌, inl, inr, ℕ, Bool, true, false, List, ap, sym, ◌∙◌}
-use Rattle.module_labels.specs.Labels.{Labels}
+use Rattle.label_codec.specs.ModuleLabels.{Labels}
 use Rattle.region_map.specs.declared.platform.Region.{Region}
 use Rattle.label_table.specs.Tables.{State, changed_at, table, without_namespace, without_space}
 use Rattle.label_table.proofs.Equations.{changed_at-twice}
-use Rattle.region_sets.specs.Fates.{with_regions}
-use Rattle.namespace_dropping.specs.Dropping.{IsBeforeOrWithout}
-use Rattle.namespace_marking.specs.Renaming.{IsBeforeOrRenamed}
+use Rattle.region_labels.specs.Fates.{with_regions}
+use Rattle.namespace_passes.specs.Dropping.{IsBeforeOrWithout}
+use Rattle.namespace_passes.specs.Renaming.{IsBeforeOrRenamed}
 use Rattle.label_sets.specs.Healing.{IsHealedIn}
 use Rattle.label_sets.specs.Marking.{IsMarkedIn}
 use Rattle.label_sets.specs.Renaming.{IsRenamedIn}

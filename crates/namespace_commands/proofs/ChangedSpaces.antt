@@ -5,7 +5,7 @@ use Rattle.std.specs.Str.{bytes_eq}
 use Rattle.std.specs.List.{All, Contains}
 use Rattle.std.specs.Option.{option_map_or}
 use Rattle.view_types.specs.declared.namespaces.Namespace.{Namespace}
-use Rattle.module_labels.specs.Labels.{Labels}
+use Rattle.label_codec.specs.ModuleLabels.{Labels}
 use Rattle.region_map.specs.declared.platform.Member.{Member}
 use Rattle.region_map.specs.declared.platform.Platform.{Platform}
 use Rattle.region_map.specs.declared.platform.Region.{Region}
@@ -19,11 +19,11 @@ use Rattle.label_table.proofs.Equations.{space-of_table}
 use Rattle.label_table.proofs.ListTests.{eq_other, eq_true, list_any-found}
 use Rattle.label_table.proofs.SoundPlatforms.{sound-disjoint}
 use Rattle.label_table.proofs.StatusLaws.{status-kept}
-use Rattle.region_sets.specs.declared.modules.LoadedModule.{LoadedModule}
-use Rattle.region_sets.specs.Fates.{with_regions}
-use Rattle.region_sets.specs.Statuses.{space_in}
+use Rattle.region_labels.specs.declared.modules.LoadedModule.{LoadedModule}
+use Rattle.region_labels.specs.Fates.{with_regions}
+use Rattle.region_labels.specs.Statuses.{space_in}
 use Rattle.module_flips.specs.Together.{free_slots}
-use Rattle.namespace_marking.specs.Renaming.{renamed_space, with_name}
+use Rattle.namespace_passes.specs.Renaming.{renamed_space, with_name}
 use Rattle.label_sets.specs.Healing.{CanHealIn}
 use Rattle.label_sets.specs.Sets.{StoredSets, labels_in, platform_in, state_in}
 use Rattle.label_sets.proofs.Stageable.{region-listed}

@@ -9,19 +9,19 @@ use Rattle.view_types.specs.declared.namespaces.Namespace.{Namespace}
 use Rattle.view_types.specs.declared.refusal.Refusal.{Refusal}
 use Rattle.view_types.specs.declared.refusal.Refusal.TheVariants.{Ambiguous, NameInUse, ReadOnly, UnknownNamespace}
 use Rattle.cmd_words.specs.declared.name_keys.NameKey.TheVariants.{Uuid, Name}
-use Rattle.module_labels.specs.Labels.{Labels}
+use Rattle.label_codec.specs.ModuleLabels.{Labels}
 use Rattle.region_map.specs.declared.platform.Region.{Region}
 use Rattle.label_table.specs.Namespaces.{namespaces}
 use Rattle.label_table.specs.Spaces.{Space, space}
 use Rattle.label_table.proofs.Listed.{namespaces-ascends, namespaces-from, namespaces-to}
 use Rattle.label_table.proofs.ListTests.{Contains-cases, Contains-here, Contains-none, Contains-there, both, lt_from, never, none_some, some_is, uuid_is, uuid_same}
 use Rattle.label_table.proofs.Order.{Ascends, before-asym, space-uuid}
-use Rattle.region_sets.specs.Marks.{listed_in, namespace_at}
-use Rattle.region_sets.specs.Statuses.{space_in}
-use Rattle.region_lookups.specs.declared.named.Named.{Named}
-use Rattle.region_lookups.specs.declared.named.Named.TheVariants as named
-use Rattle.region_lookups.specs.Named.{named_among, named_in}
-use Rattle.region_lookups.specs.Spaces.{has_name, has_name_beside, listed_spaces}
+use Rattle.region_labels.specs.Marks.{listed_in, namespace_at}
+use Rattle.region_labels.specs.Statuses.{space_in}
+use Rattle.region_labels.specs.declared.named.Named.{Named}
+use Rattle.region_labels.specs.declared.named.Named.TheVariants as named
+use Rattle.region_labels.specs.Named.{named_among, named_in}
+use Rattle.region_labels.specs.ListedSpaces.{has_name, has_name_beside, listed_spaces}
 use Rattle.table_steps.specs.Create.{is_unnamed}
 use Rattle.table_steps.specs.Namespaces.{ambiguous_among, fits, fitting, read_only_among, unknown_among}
 use Rattle.table_steps.specs.Refusals.{first_of, refused_if}

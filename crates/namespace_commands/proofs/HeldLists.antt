@@ -8,18 +8,18 @@ use Rattle.view_types.specs.declared.states.AreaState.{AreaState}
 use Rattle.view_types.specs.declared.states.AreaState.TheVariants as states
 use Rattle.view_types.specs.declared.states.Status.TheVariants.{Area}
 use Rattle.view_types.specs.declared.views.ModuleView.{ModuleView}
-use Rattle.module_labels.specs.declared.kind.AreaKind.{AreaKind}
-use Rattle.module_labels.specs.declared.kind.AreaKind.TheVariants as kind
-use Rattle.module_labels.specs.Labels.{Module, is_ready}
+use Rattle.label_codec.specs.declared.kind.AreaKind.{AreaKind}
+use Rattle.label_codec.specs.declared.kind.AreaKind.TheVariants as kind
+use Rattle.label_codec.specs.ModuleLabels.{Module, is_ready}
 use Rattle.region_map.specs.declared.platform.Platform.{Platform}
 use Rattle.region_map.specs.declared.platform.Region.{Region}
 use Rattle.label_table.proofs.ListTests.{both, eq_true, find-some}
 use Rattle.label_table.specs.Fates.{spare}
-use Rattle.region_sets.specs.declared.modules.LoadedModule.{LoadedModule}
-use Rattle.region_sets.specs.Fates.{with_regions}
-use Rattle.region_sets.specs.Held.{held_below, spare_in}
-use Rattle.region_sets.specs.Modules.{dimm_of, is_of, module_in, module_or_missing}
-use Rattle.region_sets.specs.Statuses.{unready_state}
+use Rattle.region_labels.specs.declared.modules.LoadedModule.{LoadedModule}
+use Rattle.region_labels.specs.Fates.{with_regions}
+use Rattle.region_labels.specs.Held.{held_below, spare_in}
+use Rattle.region_labels.specs.Modules.{dimm_of, is_of, module_in, module_or_missing}
+use Rattle.region_labels.specs.Statuses.{unready_state}
 use Rattle.label_sets.specs.Sets.{StoredSets, labels_in, platform_in}
 use Rattle.label_sets.specs.Views.{IsModuleView, IsModuleViewOf}
 use Rattle.table_steps.specs.Refusals.{area_by}

@@ -9,7 +9,7 @@ use Rattle.std.proofs.lemmas.List.Folds.{list_any-append}
 use Rattle.std.proofs.lemmas.List.Sorted.{list_any-IsPermutation}
 use Rattle.view_types.specs.declared.namespaces.Held.{Held}
 use Rattle.label_codec.specs.declared.label.Label.{Label}
-use Rattle.module_labels.specs.Labels.{Labels, count, has, one}
+use Rattle.label_codec.specs.ModuleLabels.{Labels, count, has, one}
 use Rattle.region_map.specs.declared.platform.Platform.{Platform}
 use Rattle.region_map.specs.declared.platform.Region.{Region}
 use Rattle.region_map.specs.Platforms.{region_at}
@@ -18,7 +18,7 @@ use Rattle.label_table.specs.Fates.{held_count, is_held, without_slot}
 use Rattle.label_table.specs.Wholes.{all_ready}
 use Rattle.label_table.proofs.ListTests.{both, eq_same, eq_true, find-some, lt_from, some_is}
 use Rattle.label_table.proofs.WholeUuids.{region_of-belongs}
-use Rattle.region_sets.specs.Held.{held_at, held_below, held_of, region_index}
+use Rattle.region_labels.specs.Held.{held_at, held_below, held_of, region_index}
 use Rattle.table_steps.specs.Release.{holds_of, is_fixed}
 use Rattle.table_steps.specs.Release as table
 use Rattle.namespace_commands.specs.Lists.{AreHeldOf}

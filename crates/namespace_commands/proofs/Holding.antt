@@ -6,14 +6,14 @@ use Rattle.std.specs.List.Sorted.{IsStrictlyIncreasing}
 use Rattle.std.proofs.lemmas.List.{get_or-map, length-map}
 use Rattle.std.proofs.lemmas.List.Kept.{AllPairs-from_increasing}
 use Rattle.view_types.specs.declared.refusal.Refusal.TheVariants.{UuidInUse}
-use Rattle.module_labels.specs.Labels.{Module, number}
+use Rattle.label_codec.specs.ModuleLabels.{Module, number}
 use Rattle.region_map.specs.declared.platform.Platform.{Platform}
 use Rattle.label_table.proofs.ListTests.{Contains-cases, Contains-none, find-some}
-use Rattle.region_sets.specs.declared.modules.LoadedModule.{LoadedModule}
-use Rattle.region_sets.specs.Modules.{EachOnce, dimm_of, labels_in, module_in}
-use Rattle.region_sets.proofs.Seated.{own-labels}
-use Rattle.region_lookups.specs.Holders.{IsHolder, has_uuid}
-use Rattle.region_lookups.specs.Holders as holders
+use Rattle.region_labels.specs.declared.modules.LoadedModule.{LoadedModule}
+use Rattle.region_labels.specs.Modules.{EachOnce, dimm_of, labels_in, module_in}
+use Rattle.region_labels.proofs.Seated.{own-labels}
+use Rattle.region_labels.specs.Holders.{IsHolder, has_uuid}
+use Rattle.region_labels.specs.Holders as holders
 use Rattle.table_steps.specs.Create.{keeps_uuid, uuid_in_use}
 use Rattle.namespace_commands.proofs.LookUps.{find-map}
 

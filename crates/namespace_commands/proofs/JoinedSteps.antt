@@ -7,8 +7,8 @@ use Rattle.rig_trait.specs.Faults.{counted}
 use Rattle.rig_trait.specs.Frames.{FailsAt, IsTold, LeavesOnly}
 use Rattle.rig_trait.proofs.Frames.{goes_on}
 use Rattle.rig_trait.proofs.Moments.{weakened}
-use Rattle.module_labels.specs.Labels.{Labels}
-use Rattle.region_sets.specs.Modules.{dimm_of}
+use Rattle.label_codec.specs.ModuleLabels.{Labels}
+use Rattle.region_labels.specs.Modules.{dimm_of}
 use Rattle.module_flips.specs.declared.flips.AreaFailed.{AreaFailed}
 use Rattle.module_flips.specs.Stops.{HasAreaCause, LeftIn, WritesAmong}
 use Rattle.module_flips.specs.Stored.{StandsIn}

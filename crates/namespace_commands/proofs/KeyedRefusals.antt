@@ -6,14 +6,14 @@ use Rattle.view_types.specs.declared.namespaces.Namespace.{Namespace}
 use Rattle.view_types.specs.declared.refusal.Refusal.{Refusal}
 use Rattle.view_types.specs.declared.refusal.Refusal.TheVariants.{UnknownRegion, Unusable}
 use Rattle.cmd_words.specs.declared.name_keys.NameKey.{NameKey}
-use Rattle.module_labels.specs.Labels.{Labels}
+use Rattle.label_codec.specs.ModuleLabels.{Labels}
 use Rattle.region_map.specs.declared.platform.Platform.{Platform}
 use Rattle.region_map.specs.declared.platform.Region.{Region}
 use Rattle.region_map.specs.Platforms.{region_at}
 use Rattle.label_table.specs.Statuses.{RegionReady, status}
 use Rattle.label_table.proofs.StatusLaws.{ready-parts}
-use Rattle.region_sets.specs.Fates.{with_regions}
-use Rattle.region_sets.specs.Statuses.{space_in}
+use Rattle.region_labels.specs.Fates.{with_regions}
+use Rattle.region_labels.specs.Statuses.{space_in}
 use Rattle.label_sets.specs.Sets.{StoredSets, labels_in, platform_in}
 use Rattle.label_sets.specs.Staging.{OfRegion}
 use Rattle.table_steps.specs.Destroy.{destroy_refusals}

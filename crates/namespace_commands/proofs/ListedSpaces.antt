@@ -1,12 +1,12 @@
 -- The namespaces of a region, as they are listed.
 use Rattle.std.proofs.Common.{◌≡◌, ℕ, List, [], ◌∷◌, length, map, Some, refl, sym, ap, ◌∙◌}
 use Rattle.view_types.specs.declared.views.RegionView.{RegionView}
-use Rattle.module_labels.specs.Labels.{Labels}
+use Rattle.label_codec.specs.ModuleLabels.{Labels}
 use Rattle.region_map.specs.declared.platform.Platform.{Platform}
 use Rattle.region_map.specs.declared.platform.Region.{Region}
 use Rattle.label_table.specs.Namespaces.{namespaces}
 use Rattle.label_table.specs.Spaces.{Space}
-use Rattle.region_sets.specs.Marks.{listed_in}
+use Rattle.region_labels.specs.Marks.{listed_in}
 use Rattle.label_sets.specs.Views.{IsRegionView}
 use Rattle.label_table.proofs.ListTests.{some_is}
 use Rattle.label_table.specs.Statuses.{status}

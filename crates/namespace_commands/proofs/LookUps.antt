@@ -8,7 +8,7 @@ use Rattle.view_types.specs.declared.extents.Extent.{Extent}
 use Rattle.view_types.specs.declared.namespaces.Namespace.{Namespace}
 use Rattle.view_types.specs.declared.refusal.Refusal.TheVariants.{NameInUse, NoSlots, NoSpace, Unhealed}
 use Rattle.view_types.specs.Intervals.{IsFirstFit, is_free}
-use Rattle.module_labels.specs.Labels.{Labels}
+use Rattle.label_codec.specs.ModuleLabels.{Labels}
 use Rattle.region_map.specs.declared.platform.Member.{Member}
 use Rattle.region_map.specs.declared.platform.Platform.{Platform}
 use Rattle.region_map.specs.declared.platform.Region.{Region}
@@ -18,11 +18,11 @@ use Rattle.label_table.specs.Fates.{spare}
 use Rattle.label_table.specs.Namespaces.{namespaces}
 use Rattle.label_table.specs.Spaces.{Space, is_pending}
 use Rattle.label_table.proofs.ListTests.{lt_from, lt_not}
-use Rattle.region_sets.specs.Marks.{listed_in}
-use Rattle.region_lookups.specs.declared.positions.ModuleSpare.{ModuleSpare}
-use Rattle.region_lookups.specs.Named.{named_among, named_in}
-use Rattle.region_lookups.specs.Positions.{IsFirstWithoutSpare, spare_at}
-use Rattle.region_lookups.specs.Spaces.{has_name, listed_spaces, shows_pending}
+use Rattle.region_labels.specs.Marks.{listed_in}
+use Rattle.region_labels.specs.declared.positions.ModuleSpare.{ModuleSpare}
+use Rattle.region_labels.specs.Named.{named_among, named_in}
+use Rattle.region_labels.specs.Positions.{IsFirstWithoutSpare, spare_at}
+use Rattle.region_labels.specs.ListedSpaces.{has_name, listed_spaces, shows_pending}
 use Rattle.table_steps.specs.Create.{is_named, is_unnamed, name_in_use_in, no_space_in}
 use Rattle.table_steps.specs.Refusals.{any_pending, first_below, no_slots_in, refused_if, unhealed_in}
 use Rattle.namespace_commands.specs.Create.{first_named}

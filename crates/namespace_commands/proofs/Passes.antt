@@ -7,18 +7,18 @@ use Rattle.view_types.specs.declared.reply.Reply.{Reply}
 use Rattle.view_types.specs.declared.reply.Reply.TheVariants.{Refused}
 use Rattle.rig_trait.specs.declared.shown.Shown.{Ghosts}
 use Rattle.rig_trait.specs.Frames.{FailsAt, IsTold, LeavesOnly}
-use Rattle.module_labels.specs.Labels.{Labels}
+use Rattle.label_codec.specs.ModuleLabels.{Labels}
 use Rattle.region_map.specs.declared.platform.Platform.{Platform}
 use Rattle.label_table.specs.Tables.{State}
-use Rattle.region_sets.specs.Modules.{dimm_of}
+use Rattle.region_labels.specs.Modules.{dimm_of}
 use Rattle.module_flips.specs.declared.flips.AreaFailed.{AreaFailed}
 use Rattle.module_flips.specs.Flips.{IsSizedIn}
 use Rattle.module_flips.specs.Stops.{LeftIn}
 use Rattle.module_flips.specs.Stored.{StandsIn}
 use Rattle.module_flips.proofs.Standing.{stands}
 use Rattle.module_flips.proofs.Turned.{no_flip}
-use Rattle.namespace_staging.proofs.Flips.{sized-on}
-use Rattle.namespace_staging.proofs.Records.{no_write}
+use Rattle.namespace_passes.proofs.StagedFlips.{sized-on}
+use Rattle.namespace_passes.proofs.Records.{no_write}
 use Rattle.label_sets.specs.Sets.{StoredSets, labels_in, state_in}
 use Rattle.namespace_commands.specs.declared.creation.ChangeFault.TheVariants.{Area, Memory}
 use Rattle.namespace_commands.specs.Changes.{IsBeforeOrBehind}

@@ -8,7 +8,7 @@ use Rattle.std.proofs.lemmas.Bool.{and_from, and_parts}
 use Rattle.std.proofs.lemmas.List.{get_or-map}
 use Rattle.view_types.specs.declared.namespaces.Namespace.{Namespace}
 use Rattle.label_codec.specs.declared.label.Label.{Label}
-use Rattle.module_labels.specs.Labels.{Labels}
+use Rattle.label_codec.specs.ModuleLabels.{Labels}
 use Rattle.region_map.specs.declared.platform.Platform.{Platform}
 use Rattle.region_map.specs.declared.platform.Region.{Region}
 use Rattle.region_map.specs.Platforms.{region_at}
@@ -21,15 +21,15 @@ use Rattle.label_table.specs.Wholes.{any_read_only, is_whole, is_whole_by, label
 use Rattle.label_table.proofs.Equations.{changed_at-twice}
 use Rattle.label_table.proofs.ListTests.{eq_same, eq_true, uuid_same}
 use Rattle.label_table.proofs.StatusLaws.{ready-with}
-use Rattle.region_sets.specs.declared.modules.LoadedModule.{LoadedModule}
-use Rattle.region_sets.specs.Fates.{with_regions}
-use Rattle.region_sets.specs.Modules.{dimm_of}
+use Rattle.region_labels.specs.declared.modules.LoadedModule.{LoadedModule}
+use Rattle.region_labels.specs.Fates.{with_regions}
+use Rattle.region_labels.specs.Modules.{dimm_of}
 use Rattle.module_flips.specs.Together.{free_slots}
 use Rattle.label_sets.specs.Healing.{CanHealIn, IsHealedIn}
 use Rattle.label_sets.specs.Sets.{StoredSets, labels_in, platform_in, state_in}
 use Rattle.label_sets.specs.Staging.{CanStageIn, GivesSlots, IsOpenRange}
 use Rattle.label_sets.proofs.Written.{same-count}
-use Rattle.namespace_staging.specs.Staged.{IsBeforeOrWith, new_space}
+use Rattle.namespace_passes.specs.Staged.{IsBeforeOrWith, new_space}
 use Rattle.namespace_commands.specs.Create.{CanPutIn, IsPutIn, IsTableOrWith}
 
 some-is : {x y : Space} → Some x ≡ Some y → x ≡ y

@@ -7,7 +7,7 @@ use Rattle.view_types.specs.declared.namespaces.Namespace.{Namespace}
 use Rattle.view_types.specs.declared.refusal.Refusal.TheVariants.{UuidInUse}
 use Rattle.view_types.specs.declared.reply.Reply.{Reply}
 use Rattle.label_codec.specs.declared.label.Label.{Label}
-use Rattle.module_labels.specs.Labels.{IsBounded, Labels, has}
+use Rattle.label_codec.specs.ModuleLabels.{IsBounded, Labels, has}
 use Rattle.region_map.specs.declared.platform.Member.{Member}
 use Rattle.region_map.specs.declared.platform.Platform.{Platform}
 use Rattle.region_map.specs.declared.platform.Region.{Region}
@@ -20,14 +20,14 @@ use Rattle.label_table.specs.Spaces.{Space}
 use Rattle.label_table.specs.Tables.{State, Table, changed_at, is_member, is_named, state, table, with_namespace}
 use Rattle.label_table.proofs.ListTests.{Contains-get_or, both, eq_other, eq_same, eq_true, find-some, list_any-at, list_any-found}
 use Rattle.label_table.proofs.StatusLaws.{common_free-kept, status-kept}
-use Rattle.region_sets.specs.declared.modules.LoadedModule.{LoadedModule}
-use Rattle.region_sets.specs.Fates.{with_regions}
-use Rattle.region_sets.specs.Modules.{is_of, module_in, module_or_missing}
+use Rattle.region_labels.specs.declared.modules.LoadedModule.{LoadedModule}
+use Rattle.region_labels.specs.Fates.{with_regions}
+use Rattle.region_labels.specs.Modules.{is_of, module_in, module_or_missing}
 use Rattle.module_flips.specs.Together.{free_slots}
-use Rattle.namespace_staging.specs.Staged.{new_space}
+use Rattle.namespace_passes.specs.Staged.{new_space}
 use Rattle.label_sets.specs.Sets.{StoredSets, labels_in, platform_in, state_in}
 use Rattle.label_sets.specs.Sweeps.{IsFreeAsSpare, IsSweptAt}
-use Rattle.module_sweeps.specs.Sweeps.{IsSwept}
+use Rattle.module_flips.specs.Sweeps.{IsSwept}
 use Rattle.label_table.proofs.SoundPlatforms.{sound-disjoint}
 use Rattle.label_sets.proofs.Platforms.{known-members}
 use Rattle.label_sets.proofs.Stageable.{region-listed}

@@ -5,25 +5,25 @@ use Rattle.std.specs.Option.{option_and_then, option_or}
 use Rattle.view_types.specs.declared.extents.Extent.{Extent}
 use Rattle.view_types.specs.declared.refusal.Refusal.{Refusal}
 use Rattle.view_types.specs.declared.refusal.Refusal.TheVariants.{NameInUse, NoSlots, Unhealed, UuidInUse}
-use Rattle.module_labels.specs.Labels.{Labels}
+use Rattle.label_codec.specs.ModuleLabels.{Labels}
 use Rattle.region_map.specs.declared.platform.Member.{Member}
 use Rattle.region_map.specs.declared.platform.Platform.{Platform}
 use Rattle.region_map.specs.declared.platform.Region.{Region}
 use Rattle.region_map.specs.Platforms.{IsSound, region_at}
 use Rattle.label_table.specs.Division.{AreFreeExtents}
 use Rattle.label_table.specs.Statuses.{RegionReady, RegionStatus, status}
-use Rattle.region_lookups.specs.declared.positions.ModuleSpare.{ModuleSpare}
-use Rattle.region_lookups.specs.Positions.{IsFirstWithoutSpare}
-use Rattle.region_lookups.specs.Spaces.{listed_spaces, shows_pending}
+use Rattle.region_labels.specs.declared.positions.ModuleSpare.{ModuleSpare}
+use Rattle.region_labels.specs.Positions.{IsFirstWithoutSpare}
+use Rattle.region_labels.specs.ListedSpaces.{listed_spaces, shows_pending}
 use Rattle.label_sets.specs.Lookups.{LacksSpare, LacksSpareIn, in_region, uuid_of}
 use Rattle.label_sets.specs.Sets.{StoredSets, labels_in, platform_in}
 use Rattle.label_sets.proofs.Platforms.{each-once}
 use Rattle.label_table.proofs.StatusLaws.{ready-parts}
-use Rattle.region_lookups.specs.Holders.{IsHolder}
-use Rattle.region_sets.specs.Fates.{with_regions}
+use Rattle.region_labels.specs.Holders.{IsHolder}
+use Rattle.region_labels.specs.Fates.{with_regions}
 use Rattle.std.specs.List.Sorted.{IsStrictlyIncreasing}
 use Rattle.view_types.specs.declared.refusal.Refusal.TheVariants.{UnknownRegion, Unusable}
-use Rattle.region_sets.specs.Statuses.{shown_status}
+use Rattle.region_labels.specs.Statuses.{shown_status}
 use Rattle.namespace_commands.specs.Lists.{refusal_by}
 use Rattle.namespace_commands.proofs.Firsts.{or_more}
 use Rattle.namespace_commands.proofs.Unread.{unread-is}
@@ -34,8 +34,8 @@ use Rattle.table_steps.specs.Refusals.{any_pending, first_below, first_of, no_sl
 use Rattle.table_steps.proofs.KnownRegions.{known-region}
 use Rattle.label_table.specs.Namespaces.{namespaces}
 use Rattle.label_table.specs.Spaces.{Space}
-use Rattle.region_lookups.specs.declared.named.Named.{Named}
-use Rattle.region_lookups.specs.Named.{named_in}
+use Rattle.region_labels.specs.declared.named.Named.{Named}
+use Rattle.region_labels.specs.Named.{named_in}
 use Rattle.namespace_commands.specs.Create.{IsCreateRefusal, first_named}
 use Rattle.namespace_commands.specs.Lists.{IsStateOf}
 use Rattle.namespace_commands.proofs.Holding.{uuid-told}

@@ -7,20 +7,20 @@ use Rattle.view_types.specs.declared.refusal.Refusal.{Refusal}
 use Rattle.view_types.specs.declared.reply.Reply.TheVariants.{Refused, Released}
 use Rattle.rig_trait.specs.declared.shown.Shown.{Ghosts}
 use Rattle.rig_trait.specs.Frames.{FailsAt, IsTold, LeavesOnly, WritesTo}
-use Rattle.module_labels.specs.Labels.{Labels, has, is_ready}
+use Rattle.label_codec.specs.ModuleLabels.{Labels, has, is_ready}
 use Rattle.label_area.specs.Flips.{is_among}
 use Rattle.region_map.specs.declared.platform.Platform.{Platform}
 use Rattle.region_map.specs.declared.platform.Region.{Region}
 use Rattle.region_map.specs.Platforms.{IsSound}
 use Rattle.label_table.specs.Tables.{State, state, table}
 use Rattle.label_table.proofs.ListTests.{eq_same}
-use Rattle.region_sets.specs.Fates.{with_regions}
-use Rattle.region_sets.specs.Modules.{dimm_of, size_in}
+use Rattle.region_labels.specs.Fates.{with_regions}
+use Rattle.region_labels.specs.Modules.{dimm_of, size_in}
 use Rattle.module_flips.specs.declared.flips.AreaFailed.{AreaFailed}
 use Rattle.module_flips.specs.Stops.{HasAreaCause, LeftIn}
 use Rattle.module_flips.specs.Stored.{StandsIn}
-use Rattle.module_sweeps.specs.Releases.{IsBeforeOrReleased, released_state}
-use Rattle.namespace_staging.proofs.Records.{no_write, one_write_more}
+use Rattle.module_flips.specs.Releases.{IsBeforeOrReleased, released_state}
+use Rattle.namespace_passes.proofs.Records.{no_write, one_write_more}
 use Rattle.label_sets.specs.Releases.{CanReleaseIn}
 use Rattle.label_sets.specs.Sets.{StoredSets, labels_in, platform_in, state_in}
 use Rattle.table_steps.specs.Refusals.{first_of}

@@ -9,7 +9,7 @@ use Rattle.view_types.specs.declared.refusal.Refusal.{Refusal}
 use Rattle.view_types.specs.declared.refusal.Refusal.TheVariants.{NotHeld, ReadOnly, UnknownRegion, Unusable}
 use Rattle.view_types.specs.declared.reply.Reply.TheVariants.{HeldList, Refused}
 use Rattle.view_types.specs.declared.rule.Rule.{Rule}
-use Rattle.module_labels.specs.Labels.{Labels, has, is_ready}
+use Rattle.label_codec.specs.ModuleLabels.{Labels, has, is_ready}
 use Rattle.region_map.specs.declared.platform.Member.{Member}
 use Rattle.region_map.specs.declared.platform.Platform.{Platform}
 use Rattle.region_map.specs.declared.platform.Region.{Region}

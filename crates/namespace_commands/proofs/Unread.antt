@@ -7,8 +7,8 @@ use Rattle.view_types.specs.declared.refusal.Refusal.TheVariants.{UnknownRegion,
 use Rattle.view_types.specs.declared.rule.Rule.{Rule}
 use Rattle.view_types.specs.declared.states.Status.{Status}
 use Rattle.view_types.specs.declared.views.RegionView.{RegionView}
-use Rattle.module_labels.specs.declared.kind.AreaKind.{AreaKind}
-use Rattle.module_labels.specs.Labels.{Labels}
+use Rattle.label_codec.specs.declared.kind.AreaKind.{AreaKind}
+use Rattle.label_codec.specs.ModuleLabels.{Labels}
 use Rattle.region_map.specs.declared.platform.Platform.{Platform}
 use Rattle.region_map.specs.declared.platform.Region.{Region}
 use Rattle.region_map.specs.Platforms.{region_at}
@@ -16,7 +16,7 @@ use Rattle.label_table.specs.Namespaces.{first_clash, namespaces}
 use Rattle.label_table.specs.Spaces.{Space}
 use Rattle.label_table.specs.Statuses as statuses
 use Rattle.label_table.specs.Statuses.{RegionReady, RegionStatus, first_not_ready, status, status_by, status_by_area, status_by_clash}
-use Rattle.region_sets.specs.Statuses.{shown_status}
+use Rattle.region_labels.specs.Statuses.{shown_status}
 use Rattle.label_sets.specs.Sets.{StoredSets, labels_in, platform_in}
 use Rattle.label_sets.specs.Largest.{IsLargestOf, TellsLargest}
 use Rattle.label_sets.specs.Lookups.{AreFreeOf, TellsFree, in_region}

@@ -1,7 +1,7 @@
 -- What a stop leaves of a command that changes areas.
 use Rattle.std.specs.Prelude.{◌≡◌, ◌⊎◌}
 use Rattle.view_types.specs.declared.reply.Reply.{Reply}
-use Rattle.module_labels.specs.Labels.{Labels}
+use Rattle.label_codec.specs.ModuleLabels.{Labels}
 use Rattle.region_map.specs.declared.platform.Platform.{Platform}
 use Rattle.label_table.specs.Tables.{State, table}
 

@@ -4,12 +4,12 @@ use Rattle.std.specs.List.{All}
 use Rattle.view_types.specs.declared.reply.Reply.{Reply}
 use Rattle.rig_trait.specs.declared.shown.Shown.{Ghosts}
 use Rattle.rig_trait.specs.Frames.{IsTold, LeavesOnly}
-use Rattle.module_labels.specs.Labels.{Labels}
+use Rattle.label_codec.specs.ModuleLabels.{Labels}
 use Rattle.region_map.specs.declared.platform.Platform.{Platform}
 use Rattle.region_map.specs.declared.platform.Region.{Region}
 use Rattle.label_table.specs.Tables.{State, changed_at, table, without_namespace}
-use Rattle.namespace_marking.specs.Renaming.{with_name}
-use Rattle.region_sets.specs.Modules.{dimm_of, size_in}
+use Rattle.namespace_passes.specs.Renaming.{with_name}
+use Rattle.region_labels.specs.Modules.{dimm_of, size_in}
 use Rattle.module_flips.specs.declared.flips.AreaFailed.{AreaFailed}
 use Rattle.module_flips.specs.Stops.{HasAreaCause, LeftIn, WritesAmong}
 use Rattle.module_flips.specs.Stored.{StandsIn}

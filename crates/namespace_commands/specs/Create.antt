@@ -11,7 +11,7 @@ use Rattle.view_types.specs.Intervals.{IsFirstFit}
 use Rattle.rig_trait.specs.declared.shown.Shown.{Ghosts}
 use Rattle.rig_trait.specs.Frames.{FailsAt, IsTold, LeavesOnly}
 use Rattle.label_area.specs.Flips.{is_among}
-use Rattle.module_labels.specs.Labels.{Labels}
+use Rattle.label_codec.specs.ModuleLabels.{Labels}
 use Rattle.region_map.specs.declared.platform.Member.{Member}
 use Rattle.region_map.specs.declared.platform.Platform.{Platform}
 use Rattle.region_map.specs.declared.platform.Region.{Region}
@@ -21,15 +21,15 @@ use Rattle.label_table.specs.Flips.{HasNone}
 use Rattle.label_table.specs.Spaces.{Space}
 use Rattle.label_table.specs.Statuses.{RegionReady, status}
 use Rattle.label_table.specs.Tables.{changed_at, is_member, table, with_namespace}
-use Rattle.region_lookups.specs.declared.named.Named.{Named}
-use Rattle.region_lookups.specs.declared.named.Named.TheVariants as named
-use Rattle.region_sets.specs.declared.modules.LoadedModule.{LoadedModule}
-use Rattle.region_sets.specs.Modules.{dimm_of, size_in}
-use Rattle.region_sets.specs.Regions.{handles}
+use Rattle.region_labels.specs.declared.named.Named.{Named}
+use Rattle.region_labels.specs.declared.named.Named.TheVariants as named
+use Rattle.region_labels.specs.declared.modules.LoadedModule.{LoadedModule}
+use Rattle.region_labels.specs.Modules.{dimm_of, size_in}
+use Rattle.region_labels.specs.Regions.{handles}
 use Rattle.module_flips.specs.Stops.{LeftIn, WritesAmong}
 use Rattle.module_flips.specs.Stored.{StandsIn}
 use Rattle.module_flips.specs.Together.{free_slots}
-use Rattle.namespace_staging.specs.Staged.{new_space}
+use Rattle.namespace_passes.specs.Staged.{new_space}
 use Rattle.label_sets.specs.Sets.{StoredSets, labels_in, platform_in, state_in}
 use Rattle.label_sets.specs.Staging.{IsOpenRange}
 use Rattle.table_steps.specs.declared.change.NewNamespace.{NewNamespace}

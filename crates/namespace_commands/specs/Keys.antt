@@ -4,7 +4,7 @@ use Rattle.std.specs.List.{Contains}
 use Rattle.view_types.specs.declared.namespaces.Namespace.{Namespace}
 use Rattle.view_types.specs.declared.refusal.Refusal.{Refusal}
 use Rattle.cmd_words.specs.declared.name_keys.NameKey.{NameKey}
-use Rattle.module_labels.specs.Labels.{Labels}
+use Rattle.label_codec.specs.ModuleLabels.{Labels}
 use Rattle.region_map.specs.declared.platform.Member.{Member}
 use Rattle.region_map.specs.declared.platform.Platform.{Platform}
 use Rattle.region_map.specs.declared.platform.Region.{Region}
@@ -12,7 +12,7 @@ use Rattle.region_map.specs.Platforms.{region_at}
 use Rattle.label_table.specs.Fates.{spare}
 use Rattle.label_table.specs.Spaces as spaces
 use Rattle.label_table.specs.Statuses.{RegionReady, status}
-use Rattle.region_sets.specs.Statuses.{space_in}
+use Rattle.region_labels.specs.Statuses.{space_in}
 use Rattle.table_steps.specs.Namespaces.{ambiguous_in, fitting, read_only_in, unknown_in}
 use Rattle.table_steps.specs.Refusals.{by_region, first_of, region_not_ready, unhealed, unhealed_in, unknown_region}
 use Rattle.table_steps.specs.Refusals.{unusable}

@@ -14,7 +14,7 @@ use Rattle.view_types.specs.declared.reply.Reply.TheVariants.{Namespaces, Region
 use Rattle.view_types.specs.declared.states.Status.{Status}
 use Rattle.view_types.specs.declared.states.Status.TheVariants as shown
 use Rattle.view_types.specs.declared.views.RegionView.{RegionView}
-use Rattle.module_labels.specs.Labels.{Labels}
+use Rattle.label_codec.specs.ModuleLabels.{Labels}
 use Rattle.region_map.specs.declared.platform.Platform.{Platform}
 use Rattle.region_map.specs.declared.platform.Region.{Region}
 use Rattle.region_map.specs.Platforms.{region_at}
@@ -23,10 +23,10 @@ use Rattle.label_table.specs.Fates.{spare}
 use Rattle.label_table.specs.Namespaces.{namespaces}
 use Rattle.label_table.specs.Spaces.{Space}
 use Rattle.label_table.specs.Statuses.{AreaNotReady, Clash, RegionReady, RegionStatus, Unusable, status}
-use Rattle.region_sets.specs.Held.{held_below, held_key, key_cmp}
-use Rattle.region_sets.specs.Marks.{listed_in}
-use Rattle.region_sets.specs.Modules.{dimm_of}
-use Rattle.region_sets.specs.Statuses.{shown_status}
+use Rattle.region_labels.specs.Held.{held_below, held_key, key_cmp}
+use Rattle.region_labels.specs.Marks.{listed_in}
+use Rattle.region_labels.specs.Modules.{dimm_of}
+use Rattle.region_labels.specs.Statuses.{shown_status}
 use Rattle.label_sets.specs.Sets.{StoredSets}
 use Rattle.label_sets.specs.Views.{IsRegionView}
 use Rattle.table_steps.specs.Refusals.{IsReplyBy, area_not_ready, first_of, region_not_ready, unknown_dimm}

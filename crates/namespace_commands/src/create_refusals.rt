@@ -15,7 +15,7 @@ ghost use Rattle.namespace_commands.specs.Lists.{IsStateOf};
 
 use crate::lists::learned_refusal;
 use label_sets::Sets;
-use region_lookups::Named;
+use region_labels::Named;
 use region_map::{Platform, Region};
 use std::alloc::{AllocError, Global};
 use table_steps::{NewNamespace, bad_size};

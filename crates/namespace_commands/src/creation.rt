@@ -4,12 +4,12 @@ ghost use Rattle.std.specs.Prelude.{◌≡◌, IfErr, IfOk, None, OnErr, OnOk, S
 ghost use Rattle.std.specs.List.{All};
 ghost use Rattle.rig_trait.specs.Frames.{IsTold, LeavesOnly};
 ghost use Rattle.region_map.specs.Platforms.{IsSound, region_at};
-ghost use Rattle.region_sets.specs.Modules.{dimm_of, size_in};
-ghost use Rattle.region_sets.specs.Regions.{handles};
+ghost use Rattle.region_labels.specs.Modules.{dimm_of, size_in};
+ghost use Rattle.region_labels.specs.Regions.{handles};
 ghost use Rattle.module_flips.specs.Flips.{IsSizedIn};
 ghost use Rattle.module_flips.specs.Stops.{HasAreaCause, LeftIn, WritesAmong};
 ghost use Rattle.module_flips.specs.Stored.{StandsIn};
-ghost use Rattle.namespace_staging.specs.Staged.{new_space};
+ghost use Rattle.namespace_passes.specs.Staged.{new_space};
 ghost use Rattle.label_sets.specs.Sets.{labels_in, platform_in, state_in};
 ghost use Rattle.recovery.specs.Recovery.{IsRecovered};
 ghost use Rattle.table_steps.specs.Changes.{least_spare};

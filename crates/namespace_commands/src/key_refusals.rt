@@ -2,9 +2,9 @@
 
 ghost use Rattle.std.specs.Prelude.{◌≡◌, ◌∷◌, [], IfErr, IfOk, List, None, OnOk, Option, Some, map};
 ghost use Rattle.view_types.specs.declared.refusal.Refusal.{Refusal};
-ghost use Rattle.region_lookups.specs.Named.{named_among};
-ghost use Rattle.region_sets.specs.Marks.{listed_in};
-ghost use Rattle.region_sets.specs.Statuses.{space_in};
+ghost use Rattle.region_labels.specs.Named.{named_among};
+ghost use Rattle.region_labels.specs.Marks.{listed_in};
+ghost use Rattle.region_labels.specs.Statuses.{space_in};
 ghost use Rattle.label_sets.specs.Sets.{labels_in};
 ghost use Rattle.label_sets.specs.Staging.{OfRegion};
 ghost use Rattle.table_steps.specs.Destroy.{destroy_refusals};
@@ -19,7 +19,7 @@ use crate::lists::region_refusal;
 use crate::refusals::Unanswered;
 use cmd_words::NameKey;
 use label_sets::Sets;
-use region_lookups::Named;
+use region_labels::Named;
 use region_map::Platform;
 use std::alloc::{AllocError, Global};
 use view_types::{Namespace, Refusal};

@@ -5,7 +5,7 @@ ghost use Rattle.std.specs.List.{All};
 ghost use Rattle.rig_trait.specs.Frames.{IsTold};
 ghost use Rattle.region_map.specs.Platforms.{IsSound, region_at};
 ghost use Rattle.label_table.specs.Statuses.{RegionReady, status};
-ghost use Rattle.region_sets.specs.Regions.{handles};
+ghost use Rattle.region_labels.specs.Regions.{handles};
 ghost use Rattle.module_flips.specs.Flips.{IsSizedIn};
 ghost use Rattle.label_sets.specs.Sets.{labels_in};
 ghost use Rattle.recovery.specs.Recovery.{IsRecovered};

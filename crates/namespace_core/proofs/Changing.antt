@@ -12,13 +12,13 @@ use Rattle.rig_trait.specs.Frames.{LeavesOnly, Reads}
 use Rattle.rig_trait.specs.Records.{CrashRecord}
 use Rattle.rig_trait.proofs.Moments.{weakened}
 use Rattle.label_area.specs.Flips.{is_among}
-use Rattle.module_labels.specs.Labels.{Labels}
+use Rattle.label_codec.specs.ModuleLabels.{Labels}
 use Rattle.region_map.specs.declared.platform.Member.{Member}
 use Rattle.region_map.specs.declared.platform.Platform.{Platform}
 use Rattle.region_map.specs.declared.platform.Region.{Region}
 use Rattle.region_map.specs.Platforms.{IsSound, region_at}
-use Rattle.region_sets.specs.Modules.{dimm_of, size_in}
-use Rattle.region_sets.specs.Regions.{handles}
+use Rattle.region_labels.specs.Modules.{dimm_of, size_in}
+use Rattle.region_labels.specs.Regions.{handles}
 use Rattle.module_flips.specs.Stops.{LeftIn, WritesAmong}
 use Rattle.module_flips.specs.Stored.{StandsIn}
 use Rattle.label_table.proofs.ListTests.{eq_same, find-some, list_any-at}

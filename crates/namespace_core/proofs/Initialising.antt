@@ -13,9 +13,9 @@ use Rattle.rig_trait.specs.Areas.{Areas}
 use Rattle.rig_trait.specs.Frames.{FailsAt, IsTold, LeavesOnly, Reads, WritesTo}
 use Rattle.rig_trait.specs.declared.shown.Shown.{Ghosts}
 use Rattle.rig_trait.proofs.Moments.{weakened}
-use Rattle.module_labels.specs.declared.kind.AreaKind.{AreaKind}
-use Rattle.module_labels.specs.declared.kind.AreaKind.TheVariants as kind
-use Rattle.module_labels.specs.Labels.{Labels, Module, is_ready}
+use Rattle.label_codec.specs.declared.kind.AreaKind.{AreaKind}
+use Rattle.label_codec.specs.declared.kind.AreaKind.TheVariants as kind
+use Rattle.label_codec.specs.ModuleLabels.{Labels, Module, is_ready}
 use Rattle.label_area.specs.Flips.{is_among}
 use Rattle.label_area.specs.Inits as area
 use Rattle.label_area.specs.Inits.{LeftByInit}
@@ -23,10 +23,10 @@ use Rattle.label_area.specs.Modules.{area_kind, module_at}
 use Rattle.region_map.specs.declared.platform.Platform.{Platform}
 use Rattle.region_map.specs.declared.platform.Region.{Region}
 use Rattle.label_table.specs.Tables.{State, state}
-use Rattle.region_sets.specs.declared.modules.LoadedModule.{LoadedModule}
-use Rattle.region_sets.specs.Fates.{with_regions}
-use Rattle.region_sets.specs.Modules.{dimm_of, is_of, module_or_missing, size_in, without_labels}
-use Rattle.region_sets.specs.Statuses.{unready_state}
+use Rattle.region_labels.specs.declared.modules.LoadedModule.{LoadedModule}
+use Rattle.region_labels.specs.Fates.{with_regions}
+use Rattle.region_labels.specs.Modules.{dimm_of, is_of, module_or_missing, size_in, without_labels}
+use Rattle.region_labels.specs.Statuses.{unready_state}
 use Rattle.module_flips.specs.Stops.{LeftIn}
 use Rattle.module_flips.specs.Stored.{StandsIn, stored_labels}
 use Rattle.label_sets.specs.declared.init.SetInitFault.{SetInitFault}
@@ -41,7 +41,7 @@ use Rattle.namespace_commands.specs.Lists.{IsStateOf}
 use Rattle.namespace_commands.proofs.RecoveredSpaces.{state-there}
 use Rattle.cmd_words.specs.declared.commands.Command.TheVariants.{InitLabels}
 use Rattle.label_table.proofs.ListTests.{eq_same}
-use Rattle.namespace_staging.proofs.Records.{no_write, one_write_more}
+use Rattle.namespace_passes.proofs.Records.{no_write, one_write_more}
 use Rattle.namespace_core.specs.Commands.{IsBeforeOrAfter, has_module, is_change, result_changes}
 use Rattle.namespace_core.specs.Faults.{HasRunCause, IsRunAmong, IsRunAt}
 use Rattle.namespace_core.specs.Done.{IsDone, Stand, init_answer, run_by}

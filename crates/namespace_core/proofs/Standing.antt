@@ -10,8 +10,8 @@ use Rattle.rig_trait.specs.Frames.{IsTold}
 use Rattle.label_area.specs.Flips.{is_among}
 use Rattle.label_area.specs.Inits as area
 use Rattle.region_map.specs.declared.platform.Platform.{Platform}
-use Rattle.region_sets.specs.declared.modules.LoadedModule.{LoadedModule}
-use Rattle.region_sets.specs.Modules.{dimm_of, is_of, size_in}
+use Rattle.region_labels.specs.declared.modules.LoadedModule.{LoadedModule}
+use Rattle.region_labels.specs.Modules.{dimm_of, is_of, size_in}
 use Rattle.module_flips.specs.Stored.{StandsIn}
 use Rattle.module_flips.proofs.Stored.{stands-sized}
 use Rattle.label_sets.specs.Init.{slots_at, slots_by_size}

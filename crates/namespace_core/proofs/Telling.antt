@@ -9,14 +9,14 @@ use Rattle.rig_trait.specs.Areas.{Areas}
 use Rattle.rig_trait.specs.Frames.{LeavesOnly, Reads}
 use Rattle.rig_trait.specs.Records.{CrashRecord}
 use Rattle.rig_trait.proofs.Frames.{reading}
-use Rattle.module_labels.specs.Labels.{Labels}
+use Rattle.label_codec.specs.ModuleLabels.{Labels}
 use Rattle.region_map.specs.declared.platform.Platform.{Platform}
 use Rattle.label_table.specs.Tables.{state}
 use Rattle.module_flips.specs.Stops.{LeftIn}
 use Rattle.module_flips.specs.Stored.{StandsIn, stored_labels}
 use Rattle.module_flips.proofs.Standing.{stands}
 use Rattle.module_flips.proofs.Turned.{no_flip}
-use Rattle.namespace_staging.proofs.Records.{no_write}
+use Rattle.namespace_passes.proofs.Records.{no_write}
 use Rattle.label_sets.specs.Init.{slots_at}
 use Rattle.label_sets.specs.Sets.{StoredSets, labels_in}
 use Rattle.cmd_words.specs.declared.commands.Command.{Command}

@@ -8,17 +8,17 @@ use Rattle.view_types.specs.declared.states.AreaState.TheVariants.{Ready}
 use Rattle.view_types.specs.declared.views.ModuleView.{ModuleView}
 use Rattle.view_types.specs.declared.views.RegionView.{RegionView}
 use Rattle.view_types.specs.declared.views.View.{View}
-use Rattle.module_labels.specs.Labels.{Labels, Module, is_ready, number}
+use Rattle.label_codec.specs.ModuleLabels.{Labels, Module, is_ready, number}
 use Rattle.region_map.specs.declared.platform.Platform.{Platform}
 use Rattle.region_map.specs.declared.platform.Region.{Region}
 use Rattle.region_map.specs.Platforms.{IsSound}
 use Rattle.label_table.specs.Fates.{is_dead}
-use Rattle.region_sets.specs.declared.modules.LoadedModule.{LoadedModule}
-use Rattle.region_sets.specs.Fates.{with_regions}
-use Rattle.region_sets.specs.Held.{held_below}
-use Rattle.region_sets.specs.Modules.{EachOnce, dimm_of, module_in}
-use Rattle.region_sets.specs.Statuses.{unready_state}
-use Rattle.region_sets.proofs.Seated.{own-labels}
+use Rattle.region_labels.specs.declared.modules.LoadedModule.{LoadedModule}
+use Rattle.region_labels.specs.Fates.{with_regions}
+use Rattle.region_labels.specs.Held.{held_below}
+use Rattle.region_labels.specs.Modules.{EachOnce, dimm_of, module_in}
+use Rattle.region_labels.specs.Statuses.{unready_state}
+use Rattle.region_labels.proofs.Seated.{own-labels}
 use Rattle.label_sets.specs.Sets.{StoredSets, labels_in}
 use Rattle.label_sets.specs.Views as sets
 use Rattle.label_sets.proofs.Platforms.{each-once}

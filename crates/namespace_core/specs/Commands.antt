@@ -6,8 +6,8 @@ use Rattle.view_types.specs.declared.reply.Reply.{Reply}
 use Rattle.view_types.specs.declared.reply.Reply.TheVariants as replies
 use Rattle.rig_trait.specs.Areas.{Areas}
 use Rattle.rig_trait.specs.Records.{CrashRecord}
-use Rattle.module_labels.specs.declared.kind.AreaKind.TheVariants.{Uninit}
-use Rattle.module_labels.specs.Labels.{Labels}
+use Rattle.label_codec.specs.declared.kind.AreaKind.TheVariants.{Uninit}
+use Rattle.label_codec.specs.ModuleLabels.{Labels}
 use Rattle.label_area.specs.Inits.{LeftByInit, initialised}
 use Rattle.label_area.specs.Modules.{area_kind}
 use Rattle.region_map.specs.declared.platform.Platform.{Platform}

@@ -8,7 +8,7 @@ use Rattle.rig_trait.specs.declared.shown.Shown.{Ghosts}
 use Rattle.rig_trait.specs.Frames.{IsTold, LeavesOnly, Reads}
 use Rattle.region_map.specs.declared.platform.Platform.{Platform}
 use Rattle.label_table.specs.Tables.{state}
-use Rattle.region_sets.specs.Modules.{dimm_of, size_in}
+use Rattle.region_labels.specs.Modules.{dimm_of, size_in}
 use Rattle.module_flips.specs.Stops.{LeftIn, WritesAmong}
 use Rattle.module_flips.specs.Stored.{StandsIn}
 use Rattle.label_sets.specs.declared.init.SetInitFault.{SetInitFault}

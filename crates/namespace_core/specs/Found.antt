@@ -7,7 +7,7 @@ use Rattle.view_types.specs.declared.reply.Reply.TheVariants.{Refused}
 use Rattle.view_types.specs.declared.states.AreaState.{AreaState}
 use Rattle.view_types.specs.declared.states.AreaState.TheVariants as states
 use Rattle.view_types.specs.declared.states.Status.TheVariants as statuses
-use Rattle.module_labels.specs.Labels.{Labels}
+use Rattle.label_codec.specs.ModuleLabels.{Labels}
 use Rattle.region_map.specs.declared.platform.Platform.{Platform}
 use Rattle.label_table.specs.Tables.{State, state}
 use Rattle.cmd_words.specs.declared.commands.Command.{Command}

@@ -5,10 +5,10 @@ use Rattle.view_types.specs.declared.states.AreaState.{AreaState}
 use Rattle.view_types.specs.declared.states.AreaState.TheVariants.{Ready}
 use Rattle.view_types.specs.declared.views.ModuleView.{ModuleView}
 use Rattle.view_types.specs.declared.views.View.{View}
-use Rattle.module_labels.specs.Labels.{Labels, is_ready}
+use Rattle.label_codec.specs.ModuleLabels.{Labels, is_ready}
 use Rattle.region_map.specs.declared.platform.Platform.{Platform}
 use Rattle.label_table.specs.Fates.{spare}
-use Rattle.region_sets.specs.Statuses.{unready_state}
+use Rattle.region_labels.specs.Statuses.{unready_state}
 use Rattle.label_sets.specs.Views.{IsRegionView}
 use Rattle.namespace_commands.specs.Lists.{AreHeldOf}
 

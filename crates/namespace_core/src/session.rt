@@ -4,7 +4,7 @@ ghost use Rattle.std.specs.Prelude.{◌≡◌, ◌↔◌, IfErr, IfOk, OnOk, fal
 ghost use Rattle.std.specs.List.{All};
 ghost use Rattle.rig_trait.specs.Frames.{IsTold, LeavesOnly, Reads};
 ghost use Rattle.region_map.specs.Platforms.{IsSound};
-ghost use Rattle.region_sets.specs.Modules.{dimm_of, size_in};
+ghost use Rattle.region_labels.specs.Modules.{dimm_of, size_in};
 ghost use Rattle.module_flips.specs.Flips.{IsSizedIn};
 ghost use Rattle.module_flips.specs.Stops.{LeftIn, WritesAmong};
 ghost use Rattle.namespace_core.specs.Commands.{Does, HasAreas, IsBeforeOrAfter, LeavesArea, SaysIfKnown};

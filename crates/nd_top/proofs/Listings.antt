@@ -7,8 +7,8 @@ use Rattle.rig_trait.specs.Areas.{Areas}
 use Rattle.rig_trait.specs.Frames.{FailsAt, IsTold, Reads}
 use Rattle.index_block.specs.declared.geometry.Geometry.{Geometry}
 use Rattle.index_block.specs.Geometry.{geometry_of}
-use Rattle.module_labels.specs.declared.kind.AreaKind.{AreaKind}
-use Rattle.module_labels.specs.declared.kind.AreaKind.TheVariants.{Missing, WrongSize, Uninit, Foreign, Ready}
+use Rattle.label_codec.specs.declared.kind.AreaKind.{AreaKind}
+use Rattle.label_codec.specs.declared.kind.AreaKind.TheVariants.{Missing, WrongSize, Uninit, Foreign, Ready}
 use Rattle.label_area.specs.declared.blocks.Current.{Current}
 use Rattle.label_area.specs.declared.load.AreaFault.{AreaFault}
 use Rattle.label_area.specs.declared.load.AreaFault.TheVariants as load
@@ -18,7 +18,7 @@ use Rattle.label_area.specs.LoadedAreas.{LoadedArea, block_of}
 use Rattle.label_area.specs.Loads.{IsFaultOf, IsShown, Loads}
 use Rattle.label_area.specs.Modules.{area_kind, module_at}
 use Rattle.label_listing.specs.Listing.{listing, loaded_listing}
-use Rattle.module_labels.specs.Labels.{Module}
+use Rattle.label_codec.specs.ModuleLabels.{Module}
 use Rattle.label_area.proofs.Shown.{ready_is}
 use Rattle.nd_top.specs.Labels.{IsAnswer, Lists, ListsLabels, Refuses, answer_of, is_failed, labels_answer, listing_answer, not_ready, status_of, text_of}
 use Rattle.nd_top.specs.Saying.{Says}

@@ -10,8 +10,8 @@ use Rattle.label_area.specs.declared.load.AreaFault.TheVariants as load
 use Rattle.label_area.specs.Blocks.{current_block}
 use Rattle.label_area.specs.Modules.{area_kind, module_at}
 use Rattle.label_listing.specs.Listing.{listing}
-use Rattle.module_labels.specs.declared.kind.AreaKind.{AreaKind}
-use Rattle.module_labels.specs.declared.kind.AreaKind.TheVariants as kinds
+use Rattle.label_codec.specs.declared.kind.AreaKind.{AreaKind}
+use Rattle.label_codec.specs.declared.kind.AreaKind.TheVariants as kinds
 use Rattle.report_json.specs.Refusals.{refusal_line}
 use Rattle.view_types.specs.declared.refusal.Refusal.{Refusal}
 use Rattle.view_types.specs.declared.refusal.Refusal.TheVariants.{NotReady}

@@ -6,8 +6,8 @@ use Rattle.region_map.specs.declared.platform.Member.{Member}
 use Rattle.region_map.specs.declared.platform.Region.{Region}
 use Rattle.label_table.specs.Belonging.{no_member}
 use Rattle.label_table.proofs.ListTests.{eq_other, eq_same, none_some}
-use Rattle.region_lookups.specs.declared.positions.ModuleSpare.{ModuleSpare}
-use Rattle.region_lookups.specs.Positions.{IsFirstWithoutSpare}
+use Rattle.region_labels.specs.declared.positions.ModuleSpare.{ModuleSpare}
+use Rattle.region_labels.specs.Positions.{IsFirstWithoutSpare}
 use Rattle.label_sets.specs.Sets.{StoredSets, labels_in, platform_in, state_in}
 use Rattle.recovery.specs.Recovery.{first_full, pending_count, unhealed_at}
 

@@ -6,18 +6,18 @@ use Rattle.rig_trait.specs.Areas as areas
 use Rattle.rig_trait.specs.Frames.{IsTold, LeavesOnly}
 use Rattle.rig_trait.proofs.Frames.{goes_on}
 use Rattle.rig_trait.proofs.Moments.{weakened}
-use Rattle.module_labels.specs.Labels.{Labels}
+use Rattle.label_codec.specs.ModuleLabels.{Labels}
 use Rattle.region_map.specs.declared.platform.Region.{Region}
 use Rattle.label_table.specs.Tables.{table}
-use Rattle.region_sets.specs.Fates.{with_regions}
-use Rattle.region_sets.specs.Modules.{dimm_of, size_in}
-use Rattle.region_sets.specs.Modules as modules
+use Rattle.region_labels.specs.Fates.{with_regions}
+use Rattle.region_labels.specs.Modules.{dimm_of, size_in}
+use Rattle.region_labels.specs.Modules as modules
 use Rattle.module_flips.specs.Flips.{IsSizedIn}
 use Rattle.module_flips.specs.Stops.{LeftIn}
 use Rattle.module_flips.specs.Stored.{StandsIn}
 use Rattle.module_flips.proofs.Standing.{stands}
 use Rattle.module_flips.proofs.Turned.{no_flip, turned}
-use Rattle.namespace_healing.proofs.Passing.{at-place, each-length}
+use Rattle.namespace_passes.proofs.Passing.{at-place, each-length}
 use Rattle.label_sets.specs.Sets.{StoredSets, state_in}
 use Rattle.recovery.specs.Steps.{HasTableOf, IsStep}
 

@@ -6,7 +6,7 @@ use Rattle.std.specs.Option.{option_and_then, option_map, option_map_or}
 use Rattle.std.specs.Str.{bytes_eq}
 use Rattle.std.proofs.lemmas.Bool.{and_parts}
 use Rattle.view_types.specs.declared.namespaces.Namespace.{Namespace}
-use Rattle.module_labels.specs.Labels.{Labels}
+use Rattle.label_codec.specs.ModuleLabels.{Labels}
 use Rattle.region_map.specs.declared.platform.Platform.{Platform}
 use Rattle.region_map.specs.declared.platform.Region.{Region}
 use Rattle.region_map.specs.Platforms.{IsSound, region_at}
@@ -22,12 +22,12 @@ use Rattle.label_table.proofs.Order.{space-uuid}
 use Rattle.label_table.proofs.SoundPlatforms.{sound-disjoint}
 use Rattle.label_table.proofs.StatusLaws.{namespaces-kept, status-kept}
 use Rattle.label_table.proofs.WholeUuids.{whole-led}
-use Rattle.region_sets.specs.Fates.{with_regions}
-use Rattle.region_sets.specs.Marks.{listed_in}
-use Rattle.region_lookups.specs.Spaces.{listed_spaces, shows_pending}
-use Rattle.region_lookups.proofs.Pendings.{none-pending}
-use Rattle.region_lookups.specs.declared.positions.ModuleSpare.{ModuleSpare}
-use Rattle.region_lookups.specs.Positions.{IsFirstWithoutSpare}
+use Rattle.region_labels.specs.Fates.{with_regions}
+use Rattle.region_labels.specs.Marks.{listed_in}
+use Rattle.region_labels.specs.ListedSpaces.{listed_spaces, shows_pending}
+use Rattle.region_labels.proofs.Pendings.{none-pending}
+use Rattle.region_labels.specs.declared.positions.ModuleSpare.{ModuleSpare}
+use Rattle.region_labels.specs.Positions.{IsFirstWithoutSpare}
 use Rattle.label_sets.specs.Lookups.{LacksSpare, LacksSpareIn, in_region, uuid_of}
 use Rattle.label_sets.specs.Sets.{StoredSets, labels_in, platform_in, state_in}
 use Rattle.label_sets.proofs.Stageable.{region-listed}

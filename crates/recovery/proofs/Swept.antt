@@ -8,7 +8,7 @@ use Rattle.std.proofs.lemmas.List.Folds.{list_any_at}
 use Rattle.rig_trait.specs.declared.shown.Shown.{Ghosts}
 use Rattle.rig_trait.specs.Frames.{FailsAt, IsTold, LeavesOnly, WritesTo}
 use Rattle.rig_trait.proofs.Moments.{weakened}
-use Rattle.module_labels.specs.Labels.{Labels, is_ready}
+use Rattle.label_codec.specs.ModuleLabels.{Labels, is_ready}
 use Rattle.label_area.specs.Flips.{is_among}
 use Rattle.region_map.specs.declared.platform.Member.{Member}
 use Rattle.region_map.specs.declared.platform.Region.{Region}
@@ -16,18 +16,18 @@ use Rattle.label_table.specs.Belonging.{member_at, no_member}
 use Rattle.label_table.specs.Tables.{State, is_member, state}
 use Rattle.label_table.specs.Wholes.{all_ready}
 use Rattle.label_table.proofs.ListTests.{Contains-get_or, eq_same, eq_true, list_all-at, list_any-at, list_any-found}
-use Rattle.region_sets.specs.Modules.{dimm_of, size_in}
-use Rattle.region_sets.specs.Regions.{handles}
-use Rattle.region_sets.proofs.Seated.{handle-at, length-handles}
+use Rattle.region_labels.specs.Modules.{dimm_of, size_in}
+use Rattle.region_labels.specs.Regions.{handles}
+use Rattle.region_labels.proofs.Seated.{handle-at, length-handles}
 use Rattle.module_flips.specs.declared.flips.AreaFailed.{AreaFailed}
 use Rattle.module_flips.specs.Stops.{HasAreaCause, LeftIn, WritesAmong}
 use Rattle.module_flips.specs.Stored.{StandsIn}
 use Rattle.module_flips.specs.Together.{free_slots}
-use Rattle.namespace_healing.proofs.Passing.{at-place, each-length}
+use Rattle.namespace_passes.proofs.Passing.{at-place, each-length}
 use Rattle.label_sets.specs.Sets.{StoredSets, labels_in, platform_in, state_in}
 use Rattle.label_sets.specs.Sweeps.{IsFreeAsSpare}
-use Rattle.module_sweeps.specs.Sweeps.{ChangesOnly}
-use Rattle.module_sweeps.proofs.FreedModules.{get_or-any}
+use Rattle.module_flips.specs.Sweeps.{ChangesOnly}
+use Rattle.module_flips.proofs.FreedModules.{get_or-any}
 use Rattle.recovery.specs.Recovery.{HasSpareFree}
 use Rattle.recovery.specs.Steps.{HasTableOf, IsStep}
 

@@ -4,14 +4,14 @@ use Rattle.std.specs.Prelude.{◌<◌, Err, Ok, count_by, length, if◌then◌el
 use Rattle.std.specs.List.{All}
 use Rattle.rig_trait.specs.declared.shown.Shown.{Ghosts}
 use Rattle.rig_trait.specs.Frames.{FailsAt}
-use Rattle.module_labels.specs.Labels.{Labels}
+use Rattle.label_codec.specs.ModuleLabels.{Labels}
 use Rattle.region_map.specs.declared.platform.Member.{Member}
 use Rattle.region_map.specs.declared.platform.Region.{Region}
 use Rattle.label_table.specs.Belonging.{member_at}
 use Rattle.label_table.specs.Namespaces.{namespaces}
 use Rattle.label_table.specs.Spaces.{Space, is_pending}
 use Rattle.label_table.specs.Tables.{is_member}
-use Rattle.region_sets.specs.declared.modules.LoadedModule.{LoadedModule}
+use Rattle.region_labels.specs.declared.modules.LoadedModule.{LoadedModule}
 use Rattle.module_flips.specs.Stops.{FailedAmong}
 use Rattle.module_flips.specs.Together.{free_slots}
 use Rattle.label_sets.specs.Sets.{StoredSets, labels_in, state_in}

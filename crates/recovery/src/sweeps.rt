@@ -5,13 +5,13 @@ ghost use Rattle.std.specs.List.{All};
 ghost use Rattle.rig_trait.specs.Frames.{IsTold};
 ghost use Rattle.label_table.specs.Belonging.{member_at};
 ghost use Rattle.label_table.specs.Wholes.{all_ready};
-ghost use Rattle.region_sets.specs.Regions.{handles};
+ghost use Rattle.region_labels.specs.Regions.{handles};
 ghost use Rattle.module_flips.specs.Flips.{IsSizedIn};
 ghost use Rattle.module_flips.specs.Stops.{HasAreaCause};
 ghost use Rattle.module_flips.specs.Stored.{StandsIn};
 ghost use Rattle.label_sets.specs.Sets.{labels_in, state_in};
 ghost use Rattle.label_sets.specs.Sweeps.{IsFreeAsSpare};
-ghost use Rattle.module_sweeps.specs.Sweeps.{ChangesOnly};
+ghost use Rattle.module_flips.specs.Sweeps.{ChangesOnly};
 ghost use Rattle.recovery.specs.Recovery.{HasSpareFree};
 ghost use Rattle.recovery.specs.Steps.{IsStep};
 

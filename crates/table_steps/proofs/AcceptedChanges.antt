@@ -7,7 +7,7 @@ use Rattle.std.proofs.lemmas.Bool.{and_from, cases_lt}
 use Rattle.view_types.specs.declared.refusal.Refusal.TheVariants as refusals
 use Rattle.view_types.specs.declared.refusal.Refusal.TheVariants.{Ambiguous, NameInUse, NoSlots, ReadOnly, UnknownRegion}
 use Rattle.cmd_words.specs.declared.name_keys.NameKey.{NameKey}
-use Rattle.module_labels.specs.Labels.{Labels}
+use Rattle.label_codec.specs.ModuleLabels.{Labels}
 use Rattle.region_map.specs.declared.platform.Member.{Member}
 use Rattle.region_map.specs.declared.platform.Platform.{Platform}
 use Rattle.region_map.specs.declared.platform.Region.{Region}

@@ -8,10 +8,10 @@ use Rattle.view_types.specs.declared.refusal.Refusal.TheVariants.{NotHeld, ReadO
 use Rattle.view_types.specs.declared.rule.Rule.{Rule}
 use Rattle.label_codec.specs.declared.label.Label.{Label}
 use Rattle.label_codec.specs.Flags.{is_local, is_read_only}
-use Rattle.module_labels.specs.declared.kind.AreaKind.{AreaKind}
-use Rattle.module_labels.specs.declared.kind.AreaKind.TheVariants.{Foreign, Missing, Ready, Uninit, WrongSize}
-use Rattle.module_labels.specs.Labels.{IsBounded, Labels, has, is_ready, one}
-use Rattle.module_labels.proofs.Counting.{count-cases, count-least, one-some}
+use Rattle.label_codec.specs.declared.kind.AreaKind.{AreaKind}
+use Rattle.label_codec.specs.declared.kind.AreaKind.TheVariants.{Foreign, Missing, Ready, Uninit, WrongSize}
+use Rattle.label_codec.specs.ModuleLabels.{IsBounded, Labels, has, is_ready, one}
+use Rattle.label_codec.proofs.Counting.{count-cases, count-least, one-some}
 use Rattle.region_map.specs.declared.platform.Member.{Member}
 use Rattle.region_map.specs.declared.platform.Platform.{Platform}
 use Rattle.region_map.specs.declared.platform.Region.{Region}

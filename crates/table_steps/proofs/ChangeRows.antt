@@ -6,8 +6,8 @@ use Rattle.view_types.specs.declared.reply.Reply.TheVariants.{Destroyed, Release
 use Rattle.view_types.specs.declared.states.AreaState.TheVariants as state
 use Rattle.view_types.specs.declared.states.Status.TheVariants as shown
 use Rattle.cmd_words.specs.declared.name_keys.NameKey.TheVariants.{Name, Uuid}
-use Rattle.module_labels.specs.declared.kind.AreaKind.TheVariants.{Missing}
-use Rattle.module_labels.specs.Labels.{Labels, has}
+use Rattle.label_codec.specs.declared.kind.AreaKind.TheVariants.{Missing}
+use Rattle.label_codec.specs.ModuleLabels.{Labels, has}
 use Rattle.label_table.specs.Division.{is_common_free}
 use Rattle.label_table.specs.Fates.{held_count}
 use Rattle.label_table.specs.Spaces.{Space}

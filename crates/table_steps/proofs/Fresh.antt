@@ -4,8 +4,8 @@ use Rattle.std.specs.List.{Contains}
 use Rattle.std.proofs.lemmas.Bool.{and_from, cases_lt}
 use Rattle.view_types.specs.declared.refusal.Refusal.TheVariants.{UuidInUse}
 use Rattle.label_codec.specs.declared.label.Label.{Label}
-use Rattle.module_labels.specs.Labels.{IsBounded, Labels, has, number, one}
-use Rattle.module_labels.proofs.Counting.{count-least, one-some}
+use Rattle.label_codec.specs.ModuleLabels.{IsBounded, Labels, has, number, one}
+use Rattle.label_codec.proofs.Counting.{count-least, one-some}
 use Rattle.region_map.specs.declared.platform.Platform.{Platform}
 use Rattle.label_table.specs.Fates.{is_dead}
 use Rattle.label_table.proofs.ListTests.{both, lt_from, never, none_some}

@@ -2,10 +2,10 @@
 use Rattle.std.proofs.Common.{◌≡◌, ℕ, ◌+◌, true, false, cond, Bool, ◌&&◌, List, None, refl, ap, ◌∙◌, arith}
 use Rattle.std.specs.Prelude.{◌==◌}
 use Rattle.label_codec.specs.declared.label.Label.{Label}
-use Rattle.module_labels.specs.declared.kind.AreaKind.{AreaKind}
-use Rattle.module_labels.specs.declared.kind.AreaKind.TheVariants.{Ready}
-use Rattle.module_labels.specs.Labels.{IsBounded, Labels, one}
-use Rattle.module_labels.proofs.Counting.{count-none}
+use Rattle.label_codec.specs.declared.kind.AreaKind.{AreaKind}
+use Rattle.label_codec.specs.declared.kind.AreaKind.TheVariants.{Ready}
+use Rattle.label_codec.specs.ModuleLabels.{IsBounded, Labels, one}
+use Rattle.label_codec.proofs.Counting.{count-none}
 use Rattle.view_types.specs.declared.reply.Reply.{Reply}
 use Rattle.region_map.specs.declared.platform.Platform.{Platform}
 use Rattle.label_table.specs.Belonging.{IsDisjoint}

@@ -5,7 +5,7 @@ use Rattle.std.proofs.lemmas.Bool.{cases_eq, cases_lt}
 use Rattle.view_types.specs.declared.extents.Extent.{Extent}
 use Rattle.view_types.specs.Intervals.{AllFree, IsFirstFit, greatest_aligned}
 use Rattle.view_types.proofs.Greatest.{fits}
-use Rattle.module_labels.specs.Labels.{Labels}
+use Rattle.label_codec.specs.ModuleLabels.{Labels}
 use Rattle.region_map.specs.declared.platform.Platform.{Platform}
 use Rattle.region_map.specs.declared.platform.Region.{Region}
 use Rattle.region_map.specs.Platforms.{region_at}

@@ -4,7 +4,7 @@ use Rattle.std.specs.Prelude.{◌==◌, ◌||◌}
 use Rattle.std.proofs.lemmas.Bool.{and_right, cases_eq}
 use Rattle.view_types.specs.declared.reply.Reply.{Reply}
 use Rattle.label_codec.specs.declared.label.Label.{Label}
-use Rattle.module_labels.specs.Labels.{IsBounded, Labels, has}
+use Rattle.label_codec.specs.ModuleLabels.{IsBounded, Labels, has}
 use Rattle.region_map.specs.declared.platform.Platform.{Platform}
 use Rattle.label_table.specs.Belonging.{IsDisjoint, region_of}
 use Rattle.label_table.specs.Fates.{held_count, is_held, is_stale, spare, without_slot}

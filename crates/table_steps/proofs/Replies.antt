@@ -4,10 +4,10 @@ use Rattle.std.specs.List.{list_any}
 use Rattle.view_types.specs.declared.refusal.Refusal.TheVariants.{AlreadyReady, NotReady, UnknownDimm}
 use Rattle.view_types.specs.declared.reply.Reply.TheVariants.{Initialised, Refused}
 use Rattle.view_types.specs.declared.states.Status.TheVariants.{Area}
-use Rattle.module_labels.specs.declared.kind.AreaKind.TheVariants as kind
-use Rattle.module_labels.specs.Labels.{Labels}
+use Rattle.label_codec.specs.declared.kind.AreaKind.TheVariants as kind
+use Rattle.label_codec.specs.ModuleLabels.{Labels}
 use Rattle.region_map.specs.declared.platform.Platform.{Platform}
-use Rattle.region_sets.specs.Statuses.{unready_state}
+use Rattle.region_labels.specs.Statuses.{unready_state}
 use Rattle.label_table.specs.Tables.{state}
 use Rattle.table_steps.specs.Initialise.{initialised}
 use Rattle.table_steps.specs.Plain.{IsInitialiseReply}

@@ -7,8 +7,8 @@ use Rattle.view_types.specs.declared.reply.Reply.TheVariants.{Created}
 use Rattle.view_types.specs.declared.states.AreaState.TheVariants as state
 use Rattle.view_types.specs.declared.states.Status.TheVariants as shown
 use Rattle.view_types.specs.Intervals.{IsFirstFit}
-use Rattle.module_labels.specs.declared.kind.AreaKind.TheVariants.{Foreign, Missing, Ready, Uninit}
-use Rattle.module_labels.specs.Labels.{Labels}
+use Rattle.label_codec.specs.declared.kind.AreaKind.TheVariants.{Foreign, Missing, Ready, Uninit}
+use Rattle.label_codec.specs.ModuleLabels.{Labels}
 use Rattle.label_table.specs.Division.{alignment, is_common_free}
 use Rattle.label_table.specs.Tables as tables
 use Rattle.label_table.proofs.ListTests.{lt_from}

@@ -8,7 +8,7 @@ use Rattle.view_types.specs.declared.refusal.Refusal.TheVariants.{NameInUse, Not
 use Rattle.view_types.specs.declared.reply.Reply.{Reply}
 use Rattle.view_types.specs.declared.reply.Reply.TheVariants.{Released}
 use Rattle.cmd_words.specs.declared.name_keys.NameKey.{NameKey}
-use Rattle.module_labels.specs.Labels.{Labels, has, is_ready}
+use Rattle.label_codec.specs.ModuleLabels.{Labels, has, is_ready}
 use Rattle.region_map.specs.declared.platform.Member.{Member}
 use Rattle.region_map.specs.declared.platform.Platform.{Platform}
 use Rattle.region_map.specs.declared.platform.Region.{Region}

@@ -1,9 +1,9 @@
 -- The refusal by a region, as the first of its modules whose area is not Ready tells it.
 use Rattle.std.proofs.Common.{◌≡◌, ℕ, Bool, true, false, not, cond, List, [], ◌∷◌, find, Option, Some, None, refl, sym, ap, ◌∙◌}
 use Rattle.std.specs.Prelude.{is_some, option_map}
-use Rattle.module_labels.specs.declared.kind.AreaKind.{AreaKind}
-use Rattle.module_labels.specs.declared.kind.AreaKind.TheVariants.{Foreign, Missing, Ready, Uninit, WrongSize}
-use Rattle.module_labels.specs.Labels.{Labels, is_ready}
+use Rattle.label_codec.specs.declared.kind.AreaKind.{AreaKind}
+use Rattle.label_codec.specs.declared.kind.AreaKind.TheVariants.{Foreign, Missing, Ready, Uninit, WrongSize}
+use Rattle.label_codec.specs.ModuleLabels.{Labels, is_ready}
 use Rattle.region_map.specs.declared.platform.Member.{Member}
 use Rattle.region_map.specs.declared.platform.Region.{Region}
 use Rattle.label_table.specs.Namespaces.{namespaces}

@@ -4,8 +4,8 @@ use Rattle.std.specs.Prelude.{◌==◌, ◌||◌, is_some, nat_lt}
 use Rattle.std.specs.List.{Contains, list_any}
 use Rattle.std.proofs.lemmas.Bool.{and_from, and_parts}
 use Rattle.label_codec.specs.declared.label.Label.{Label}
-use Rattle.module_labels.specs.Labels.{Labels, has, label_if, number, one}
-use Rattle.module_labels.proofs.Counting.{count-cases, count-least, one-some}
+use Rattle.label_codec.specs.ModuleLabels.{Labels, has, label_if, number, one}
+use Rattle.label_codec.proofs.Counting.{count-cases, count-least, one-some}
 use Rattle.region_map.specs.declared.platform.Member.{Member}
 use Rattle.region_map.specs.declared.platform.Platform.{Platform}
 use Rattle.region_map.specs.declared.platform.Region.{Region}

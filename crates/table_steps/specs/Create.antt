@@ -11,7 +11,7 @@ use Rattle.view_types.specs.declared.reply.Reply.TheVariants.{Created}
 use Rattle.view_types.specs.Intervals.{IsFirstFit}
 use Rattle.label_codec.specs.declared.label.Label.{Label}
 use Rattle.label_codec.specs.Names.{name_before_zero}
-use Rattle.module_labels.specs.Labels.{Labels, has, number}
+use Rattle.label_codec.specs.ModuleLabels.{Labels, has, number}
 use Rattle.region_map.specs.declared.platform.Platform.{Platform}
 use Rattle.region_map.specs.declared.platform.Region.{Region}
 use Rattle.region_map.specs.Platforms.{region_at}

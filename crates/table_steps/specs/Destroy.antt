@@ -5,7 +5,7 @@ use Rattle.view_types.specs.declared.refusal.Refusal.TheVariants as refusals
 use Rattle.view_types.specs.declared.reply.Reply.{Reply}
 use Rattle.view_types.specs.declared.reply.Reply.TheVariants.{Destroyed}
 use Rattle.cmd_words.specs.declared.name_keys.NameKey.{NameKey}
-use Rattle.module_labels.specs.Labels.{Labels}
+use Rattle.label_codec.specs.ModuleLabels.{Labels}
 use Rattle.region_map.specs.declared.platform.Platform.{Platform}
 use Rattle.region_map.specs.declared.platform.Region.{Region}
 use Rattle.region_map.specs.Platforms.{region_at}

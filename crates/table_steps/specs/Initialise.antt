@@ -5,13 +5,13 @@ use Rattle.view_types.specs.declared.refusal.Refusal.TheVariants.{AlreadyReady, 
 use Rattle.view_types.specs.declared.reply.Reply.{Reply}
 use Rattle.view_types.specs.declared.reply.Reply.TheVariants.{Initialised}
 use Rattle.view_types.specs.declared.states.Status.TheVariants.{Area}
-use Rattle.module_labels.specs.declared.kind.AreaKind.{AreaKind}
-use Rattle.module_labels.specs.declared.kind.AreaKind.TheVariants.{Missing, WrongSize, Ready, Foreign, Uninit}
-use Rattle.module_labels.specs.Labels.{Labels, is_ready}
+use Rattle.label_codec.specs.declared.kind.AreaKind.{AreaKind}
+use Rattle.label_codec.specs.declared.kind.AreaKind.TheVariants.{Missing, WrongSize, Ready, Foreign, Uninit}
+use Rattle.label_codec.specs.ModuleLabels.{Labels, is_ready}
 use Rattle.region_map.specs.declared.platform.Platform.{Platform}
 use Rattle.label_table.specs.Settling.{settled, with_ready_area}
 use Rattle.label_table.specs.Tables.{State, state}
-use Rattle.region_sets.specs.Statuses.{unready_state}
+use Rattle.region_labels.specs.Statuses.{unready_state}
 use Rattle.table_steps.specs.Changes.{IsDoneBy}
 use Rattle.table_steps.specs.Refusals.{first_of, refused_if, unknown_dimm}
 

@@ -6,7 +6,7 @@ use Rattle.view_types.specs.declared.refusal.Refusal.{Refusal}
 use Rattle.view_types.specs.declared.refusal.Refusal.TheVariants.{Ambiguous, ReadOnly, UnknownNamespace}
 use Rattle.cmd_words.specs.declared.name_keys.NameKey.{NameKey}
 use Rattle.cmd_words.specs.declared.name_keys.NameKey.TheVariants.{Uuid, Name}
-use Rattle.module_labels.specs.Labels.{Labels}
+use Rattle.label_codec.specs.ModuleLabels.{Labels}
 use Rattle.region_map.specs.declared.platform.Region.{Region}
 use Rattle.label_table.specs.Namespaces.{namespaces}
 use Rattle.label_table.specs.Spaces.{Space, space}

@@ -11,9 +11,9 @@ use Rattle.view_types.specs.declared.refusal.Refusal.TheVariants.{UnknownRegion}
 use Rattle.view_types.specs.declared.reply.Reply.{Reply}
 use Rattle.view_types.specs.declared.reply.Reply.TheVariants.{Refused}
 use Rattle.view_types.specs.declared.states.Status.TheVariants as shown
-use Rattle.module_labels.specs.declared.kind.AreaKind.{AreaKind}
-use Rattle.module_labels.specs.declared.kind.AreaKind.TheVariants as kind
-use Rattle.module_labels.specs.Labels.{Labels}
+use Rattle.label_codec.specs.declared.kind.AreaKind.{AreaKind}
+use Rattle.label_codec.specs.declared.kind.AreaKind.TheVariants as kind
+use Rattle.label_codec.specs.ModuleLabels.{Labels}
 use Rattle.region_map.specs.declared.platform.Member.{Member}
 use Rattle.region_map.specs.declared.platform.Platform.{Platform}
 use Rattle.region_map.specs.declared.platform.Region.{Region}
@@ -22,7 +22,7 @@ use Rattle.label_table.specs.Fates.{spare}
 use Rattle.label_table.specs.Namespaces.{namespaces}
 use Rattle.label_table.specs.Spaces.{Space, is_pending}
 use Rattle.label_table.specs.Statuses.{AreaNotReady, Clash, RegionReady, RegionStatus, Unusable, status}
-use Rattle.region_sets.specs.Statuses.{unready_state}
+use Rattle.region_labels.specs.Statuses.{unready_state}
 
 abbrev pub refused_if : Bool → Refusal → Option Refusal
 refused_if applies refusal = if applies then Some refusal else None

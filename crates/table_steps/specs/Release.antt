@@ -8,8 +8,8 @@ use Rattle.view_types.specs.declared.reply.Reply.{Reply}
 use Rattle.view_types.specs.declared.reply.Reply.TheVariants.{Released}
 use Rattle.label_codec.specs.declared.label.Label.{Label}
 use Rattle.label_codec.specs.Flags.{is_local, is_read_only}
-use Rattle.module_labels.specs.declared.kind.AreaKind.TheVariants.{Ready}
-use Rattle.module_labels.specs.Labels.{Labels, has}
+use Rattle.label_codec.specs.declared.kind.AreaKind.TheVariants.{Ready}
+use Rattle.label_codec.specs.ModuleLabels.{Labels, has}
 use Rattle.region_map.specs.declared.platform.Platform.{Platform}
 use Rattle.region_map.specs.declared.platform.Region.{Region}
 use Rattle.label_table.specs.Belonging.{belongs}

@@ -3,7 +3,7 @@
 use Rattle.std.specs.Prelude.{◌≡◌, ℕ, List}
 use Rattle.std.specs.Option.{unwrap_or}
 use Rattle.view_types.specs.declared.reply.Reply.{Reply}
-use Rattle.module_labels.specs.Labels.{Labels}
+use Rattle.label_codec.specs.ModuleLabels.{Labels}
 use Rattle.region_map.specs.declared.platform.Platform.{Platform}
 use Rattle.label_table.specs.Tables.{State, state}
 use Rattle.table_steps.specs.declared.change.Change.{Change}

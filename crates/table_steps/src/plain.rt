@@ -3,16 +3,14 @@
 ghost use Rattle.std.specs.Prelude.{◌≡◌, ◌^◌, ◌<◌, ◌==◌, ◌&&◌, ◌≤◌, find, not};
 ghost use Rattle.std.specs.List.{list_any};
 ghost use Rattle.std.specs.Option.{option_copied};
-ghost use Rattle.module_labels.specs.Labels.{has, number, one};
+ghost use Rattle.label_codec.specs.ModuleLabels.{has, number, one};
 ghost use Rattle.label_table.specs.Fates.{is_dead, spare};
 ghost use Rattle.label_table.specs.Plain.{labels_in, module_in};
 ghost use Rattle.table_steps.specs.Create.{bad_size_in, keeps_uuid, uuid_in_use};
 ghost use Rattle.table_steps.specs.Plain.{HasFewModules, IsInitialiseReply};
 ghost use Rattle.table_steps.specs.Refusals.{first_below, no_slots_in};
-
-use label_codec::Label;
+use label_codec::{AreaKind, Label};
 use label_table::{ModuleLabels, has_uuid, is_dead};
-use module_labels::AreaKind;
 use region_map::{Member, Platform, Region};
 use view_types::{AreaState, Refusal, Reply, Status};
 

@@ -3,7 +3,7 @@
 
 ghost use Rattle.std.specs.Prelude.{◌≡◌, ◌&&◌, ◌≤◌, ◌∷◌, [], false, find, not};
 ghost use Rattle.std.specs.Option.{option_copied};
-ghost use Rattle.module_labels.specs.Labels.{has, is_ready, number, one};
+ghost use Rattle.label_codec.specs.ModuleLabels.{has, is_ready, number, one};
 ghost use Rattle.region_map.specs.declared.platform.Member.{Member};
 ghost use Rattle.label_table.specs.Belonging.{belongs};
 ghost use Rattle.label_table.specs.Fates.{held_count, is_held, is_of_namespace};
@@ -15,9 +15,8 @@ ghost use Rattle.table_steps.specs.Release.{held_fixed, holds_of, is_fixed, lack
 ghost use Rattle.table_steps.specs.Release.{release_refusals};
 
 use crate::plain::{has_module, kind_of, module_of};
-use label_codec::Label;
+use label_codec::{AreaKind, Label};
 use label_table::{ModuleLabels, all_ready, belongs, has_uuid, is_dead, is_whole, region_of};
-use module_labels::AreaKind;
 use region_map::{Member, Platform, Region};
 use view_types::{AreaState, Refusal, Status};
 

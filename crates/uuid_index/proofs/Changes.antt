@@ -7,7 +7,7 @@ use Rattle.std.specs.Ordering.{is_eq}
 use Rattle.std.proofs.lemmas.Bool.{cases_eq}
 use Rattle.std.proofs.lemmas.List.Sorted.{Contains-permutation, IsPermutation-append_left, IsPermutation-append_right, IsPermutation-cons, IsPermutation-middle, IsPermutation-sym, IsPermutation-to_front, IsPermutation-trans}
 use Rattle.label_codec.specs.declared.label.Label.{Label}
-use Rattle.module_labels.specs.Labels.{Labels, Module}
+use Rattle.label_codec.specs.ModuleLabels.{Labels, Module}
 use Rattle.uuid_index.specs.declared.entry.Entry.{Entry}
 use Rattle.uuid_index.specs.Entries.{IsOrdered, entry_cmp, entry_of}
 use Rattle.uuid_index.specs.Labels.{GainsLabel, IsIndex, LosesLabel, PutsLabel, entries_below, entries_from, entries_of, entry_at, live_entries}

@@ -1,7 +1,7 @@
 -- The entries of modules are collected position by position.
 use Rattle.std.proofs.Common.{◌≡◌, ℕ, ◌+◌, ◌<◌, List, ◌++◌, append_assoc, drop, get_or, length, ap, sym, ◌∙◌}
 use Rattle.std.proofs.lemmas.List.{drop_more}
-use Rattle.module_labels.specs.Labels.{Labels}
+use Rattle.label_codec.specs.ModuleLabels.{Labels}
 use Rattle.uuid_index.specs.declared.entry.Entry.{Entry}
 use Rattle.uuid_index.specs.Labels.{entries_from, entries_of}
 

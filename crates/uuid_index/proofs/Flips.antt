@@ -2,8 +2,8 @@
 use Rattle.std.proofs.Common.{◌≡◌, ◌≢◌, ℕ, ◌<◌, eqb, List, Some, None, length, get_or, refl, subst, sym, eq-eqb}
 use Rattle.std.proofs.lemmas.Bool.{cond-true, cond-false, ne_eqb}
 use Rattle.label_codec.specs.declared.label.Label.{Label}
-use Rattle.module_labels.specs.Flips.{with_label, with_module, without_slots}
-use Rattle.module_labels.specs.Labels.{Labels, Module}
+use Rattle.label_codec.specs.ModuleChanges.{with_label, with_module, without_slots}
+use Rattle.label_codec.specs.ModuleLabels.{Labels, Module}
 use Rattle.uuid_index.specs.Entries.{entry_of}
 use Rattle.uuid_index.specs.Labels.{GainsLabel, IsOnlyOnce, LosesLabel, PutsLabel}
 

@@ -8,8 +8,8 @@ use Rattle.std.proofs.lemmas.List.Sorted.{Contains-permutation, IsPermutation-sy
 use Rattle.std.proofs.lemmas.List.Sums.{sum_by-append}
 use Rattle.std.proofs.lemmas.Slice.Eq.{bytes_eq-Decides}
 use Rattle.label_codec.specs.declared.label.Label.{Label}
-use Rattle.module_labels.specs.Labels.{Labels, Module, count, has, label_if, number, of_uuid, one}
-use Rattle.module_labels.proofs.Counting.{count-same}
+use Rattle.label_codec.specs.ModuleLabels.{Labels, Module, count, has, label_if, number, of_uuid, one}
+use Rattle.label_codec.proofs.Counting.{count-same}
 use Rattle.uuid_index.specs.declared.entry.Entry.{Entry}
 use Rattle.uuid_index.specs.declared.index.Found.{Found}
 use Rattle.uuid_index.specs.declared.index.Found.TheVariants.{Nowhere, Once, Repeated}

@@ -2,7 +2,7 @@
 use Rattle.std.specs.Prelude.{◌≡◌, ℕ, ◌<◌, ◌≤◌, true, List, Some}
 use Rattle.std.specs.List.{Contains}
 use Rattle.label_codec.specs.declared.label.Label.{Label}
-use Rattle.module_labels.specs.Labels.{Module, has, number}
+use Rattle.label_codec.specs.ModuleLabels.{Module, has, number}
 use Rattle.uuid_index.specs.declared.entry.Entry.{Entry}
 use Rattle.uuid_index.specs.declared.index.Found.{Found}
 use Rattle.uuid_index.specs.declared.index.Found.TheVariants.{Nowhere, Once, Repeated}

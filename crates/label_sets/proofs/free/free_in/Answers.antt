@@ -1,8 +1,8 @@
 use Rattle.std.proofs.Common.{map, ap, ◌∙◌, arith}
 use Rattle.label_table.specs.Namespaces.{namespaces}
-use Rattle.region_sets.specs.Modules.{labels_in}
-use Rattle.region_sets.specs.Statuses.{space_in}
-use Rattle.region_sets.proofs.Sorted.{unlisted}
+use Rattle.region_labels.specs.Modules.{labels_in}
+use Rattle.region_labels.specs.Statuses.{space_in}
+use Rattle.region_labels.proofs.Sorted.{unlisted}
 use Rattle.label_sets.specs.Kept.{IsFree}
 use Rattle.label_sets.proofs.Frees.{free-more}
 use Rattle.label_sets.proofs.free.free_in.Goals as goal

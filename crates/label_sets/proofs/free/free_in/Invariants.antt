@@ -1,6 +1,6 @@
 use Rattle.std.proofs.Common.{◌≡◌, ℕ, ◌<◌, length, get_or}
 use Rattle.extent_alloc.specs.Free.{FreeSpace}
-use Rattle.region_sets.specs.declared.region.RegionLabels.{RegionLabels}
+use Rattle.region_labels.specs.declared.region.RegionLabels.{RegionLabels}
 use Rattle.label_sets.specs.Kept.{IsFree}
 use Rattle.label_sets.proofs.free.free_in.Given as goal
 

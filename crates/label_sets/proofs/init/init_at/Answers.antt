@@ -3,12 +3,12 @@ use Rattle.std.specs.FinMap.{get}
 use Rattle.std.specs.List.{All}
 use Rattle.rig_trait.specs.Areas.{Areas, OthersKept}
 use Rattle.rig_trait.specs.Frames.{LeavesOnly}
-use Rattle.module_labels.specs.declared.kind.AreaKind.TheVariants as kind
+use Rattle.label_codec.specs.declared.kind.AreaKind.TheVariants as kind
 use Rattle.label_area.specs.Inits.{LeftByInit, initialised}
 use Rattle.label_area.specs.Modules.{area_kind}
-use Rattle.region_sets.specs.declared.modules.LoadedModule.{LoadedModule}
-use Rattle.region_sets.specs.declared.modules.ModuleArea.TheVariants.{Ready, Uninit}
-use Rattle.region_sets.specs.Regions.{IsOver}
+use Rattle.region_labels.specs.declared.modules.LoadedModule.{LoadedModule}
+use Rattle.region_labels.specs.declared.modules.ModuleArea.TheVariants.{Ready, Uninit}
+use Rattle.region_labels.specs.Regions.{IsOver}
 use Rattle.module_flips.specs.Stored.{StandsIn}
 use Rattle.label_sets.specs.Init.{IsInitialisedTo}
 use Rattle.label_sets.proofs.InitialisedSets.{init-left, initialised-to, over-now, refused-so, restored, stands-now, was-uninit}

@@ -1,6 +1,6 @@
 use Rattle.std.proofs.Common.{drop}
 use Rattle.std.specs.Prelude.{IsSome, find}
-use Rattle.region_sets.specs.Modules.{is_of}
+use Rattle.region_labels.specs.Modules.{is_of}
 use Rattle.label_sets.proofs.init.seat_in.Given as goal
 
 abbrev pub invariant-loop-seat : goal.invariant-loop-seat

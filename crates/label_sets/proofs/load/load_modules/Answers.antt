@@ -4,7 +4,7 @@ use Rattle.std.proofs.lemmas.List.{map-append, take_more}
 use Rattle.std.proofs.lemmas.List.Elements.{All-push}
 use Rattle.rig_trait.specs.Areas.{Areas}
 use Rattle.rig_trait.proofs.Frames.{reads_on}
-use Rattle.region_sets.specs.Modules.{dimm_of}
+use Rattle.region_labels.specs.Modules.{dimm_of}
 use Rattle.module_flips.specs.Flips.{HasLabelsInUse, IsOwn}
 use Rattle.module_flips.specs.Stored.{StandsIn}
 use Rattle.label_sets.proofs.load.load_modules.Goals as goal

@@ -2,7 +2,7 @@ use Rattle.std.proofs.Common.{◌≡◌, ◌+◌, ◌*◌, ◌≤◌, false, tak
 use Rattle.std.specs.Prelude.{map}
 use Rattle.std.specs.List.{All}
 use Rattle.rig_trait.specs.Frames.{IsTold, Reads, FailsAt}
-use Rattle.region_sets.specs.Modules.{dimm_of}
+use Rattle.region_labels.specs.Modules.{dimm_of}
 use Rattle.module_flips.specs.Flips.{HasLabelsInUse, IsOwn}
 use Rattle.module_flips.specs.Stored.{StandsIn}
 use Rattle.label_sets.proofs.load.load_modules.Given as goal

@@ -5,8 +5,8 @@ use Rattle.std.proofs.lemmas.List.{map-append, take_more}
 use Rattle.std.proofs.lemmas.List.Elements.{All-push}
 use Rattle.region_map.specs.declared.platform.Member.{Member}
 use Rattle.region_map.specs.declared.platform.Region.{Region}
-use Rattle.region_sets.specs.Fates.{region_in}
-use Rattle.region_sets.specs.Regions.{IsOver}
+use Rattle.region_labels.specs.Fates.{region_in}
+use Rattle.region_labels.specs.Regions.{IsOver}
 use Rattle.label_sets.specs.Kept.{HasFewMembers}
 use Rattle.label_sets.proofs.Platforms.{each-once, few-members, known-members}
 use Rattle.label_sets.proofs.read.regions_over.Goals as goal

@@ -1,7 +1,7 @@
 use Rattle.std.proofs.Common.{◌≡◌, map, take}
 use Rattle.std.specs.List.{All}
-use Rattle.region_sets.specs.Fates.{region_in}
-use Rattle.region_sets.specs.Regions.{IsOver}
+use Rattle.region_labels.specs.Fates.{region_in}
+use Rattle.region_labels.specs.Regions.{IsOver}
 use Rattle.label_sets.specs.Kept.{HasFewMembers}
 use Rattle.label_sets.proofs.read.regions_over.Given as goal
 

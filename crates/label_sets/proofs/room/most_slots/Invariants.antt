@@ -1,6 +1,6 @@
 use Rattle.std.proofs.Common.{ℕ, ◌<◌, get_or}
-use Rattle.region_sets.specs.declared.modules.LoadedModule.{LoadedModule}
-use Rattle.module_sweeps.specs.Sweeps.{HasSlotsWithin}
+use Rattle.region_labels.specs.declared.modules.LoadedModule.{LoadedModule}
+use Rattle.module_flips.specs.Sweeps.{HasSlotsWithin}
 use Rattle.label_sets.proofs.room.most_slots.Given as goal
 
 abbrev pub invariant-loop-loaded : goal.invariant-loop-loaded

@@ -1,6 +1,6 @@
 use Rattle.std.proofs.Common.{◌≡◌, ℕ, ◌<◌, get_or, map}
 use Rattle.extent_alloc.specs.Free.{FreeSpace}
-use Rattle.region_sets.specs.declared.region.RegionLabels.{RegionLabels}
+use Rattle.region_labels.specs.declared.region.RegionLabels.{RegionLabels}
 use Rattle.label_sets.specs.Room.{HasExtentRoom, without_spare}
 use Rattle.label_sets.proofs.room.reserve_extents.Given as goal
 

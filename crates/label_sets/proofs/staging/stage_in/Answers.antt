@@ -3,9 +3,9 @@ use Rattle.std.proofs.lemmas.Option.{IfSome_then}
 use Rattle.region_map.specs.declared.platform.Region.{Region}
 use Rattle.label_table.specs.Division.{is_common_free}
 use Rattle.label_table.specs.Tables.{State}
-use Rattle.region_sets.specs.Fates.{platform_of}
-use Rattle.region_sets.specs.Modules.{labels_in}
-use Rattle.namespace_staging.specs.Staged.{new_space}
+use Rattle.region_labels.specs.Fates.{platform_of}
+use Rattle.region_labels.specs.Modules.{labels_in}
+use Rattle.namespace_passes.specs.Staged.{new_space}
 use Rattle.label_sets.proofs.FreeAfter.{known-gained, known-kept}
 use Rattle.label_sets.proofs.FreeRoom.{element}
 use Rattle.label_sets.proofs.staging.stage_in.Goals as goal

@@ -1,8 +1,8 @@
 use Rattle.std.proofs.Common.{map, ap, ◌∙◌}
 use Rattle.label_table.specs.Namespaces.{namespaces}
-use Rattle.region_sets.specs.Modules.{labels_in}
-use Rattle.region_sets.specs.Statuses.{space_in}
-use Rattle.region_sets.proofs.Sorted.{unlisted}
+use Rattle.region_labels.specs.Modules.{labels_in}
+use Rattle.region_labels.specs.Statuses.{space_in}
+use Rattle.region_labels.proofs.Sorted.{unlisted}
 use Rattle.label_sets.proofs.statuses.status_of.Goals as goal
 
 pub status-requires-clause-spaces : goal.status-requires-clause-spaces

@@ -1,6 +1,6 @@
 use Rattle.std.proofs.Common.{◌≡◌, drop, true}
-use Rattle.module_labels.specs.Labels.{is_ready}
-use Rattle.region_sets.specs.Modules.{labels_in}
+use Rattle.label_codec.specs.ModuleLabels.{is_ready}
+use Rattle.region_labels.specs.Modules.{labels_in}
 use Rattle.label_sets.proofs.sweep.seat_of.Given as goal
 
 abbrev pub invariant-loop-seat : goal.invariant-loop-seat

@@ -1,7 +1,7 @@
 use Rattle.std.proofs.Common.{◌≡◌, drop, find, map}
 use Rattle.std.specs.Prelude.{◌==◌}
 use Rattle.region_map.specs.declared.platform.Region.{Region}
-use Rattle.region_sets.specs.Fates.{region_in}
+use Rattle.region_labels.specs.Fates.{region_in}
 use Rattle.label_sets.proofs.views.place_of.Given as goal
 
 abbrev pub invariant-loop-place : goal.invariant-loop-place

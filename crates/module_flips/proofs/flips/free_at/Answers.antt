@@ -1,8 +1,8 @@
 use Rattle.std.proofs.Common.{sym, subst, get_or, length}
 use Rattle.std.specs.List.{AllZip}
 use Rattle.rig_trait.specs.Areas.{OthersKept}
-use Rattle.region_changes.specs.Rooms.{KeepsRegion, room_after_free}
-use Rattle.region_changes.proofs.ChangedModules.{dimm_at-same}
+use Rattle.region_labels.specs.Rooms.{KeepsRegion, room_after_free}
+use Rattle.region_labels.proofs.ChangedModules.{dimm_at-same}
 use Rattle.module_flips.specs.Stored.{StandsIn}
 use Rattle.module_flips.proofs.Freed.{changed, either-left, labels-freed, seat-dimm, stands-after, stood}
 use Rattle.module_flips.proofs.flips.free_at.Goals as goal

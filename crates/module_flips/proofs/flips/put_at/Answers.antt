@@ -3,14 +3,14 @@ use Rattle.std.specs.List.{All, AllZip}
 use Rattle.rig_trait.specs.Areas.{OthersKept}
 use Rattle.rig_trait.specs.Frames.{LeavesOnly}
 use Rattle.label_area.specs.Flips.{replaced}
-use Rattle.region_sets.specs.declared.modules.LoadedModule.{LoadedModule}
-use Rattle.region_sets.specs.declared.region.RegionLabels.{RegionLabels}
-use Rattle.region_sets.specs.Modules.{dimm_of, labels_in, module_in}
-use Rattle.region_changes.specs.Changes.{dimm_at}
-use Rattle.region_changes.specs.Flips.{StoodBeforePut}
-use Rattle.region_changes.specs.Rooms.{HasRoomFor, KeepsRegion, room_after_put}
-use Rattle.region_changes.specs.SlotLabels.{replaced_label}
-use Rattle.region_changes.proofs.ChangedModules.{dimm_at-same}
+use Rattle.region_labels.specs.declared.modules.LoadedModule.{LoadedModule}
+use Rattle.region_labels.specs.declared.region.RegionLabels.{RegionLabels}
+use Rattle.region_labels.specs.Modules.{dimm_of, labels_in, module_in}
+use Rattle.region_labels.specs.Changes.{dimm_at}
+use Rattle.region_labels.specs.Flips.{StoodBeforePut}
+use Rattle.region_labels.specs.Rooms.{HasRoomFor, KeepsRegion, room_after_put}
+use Rattle.region_labels.specs.SlotLabels.{replaced_label}
+use Rattle.region_labels.proofs.ChangedModules.{dimm_at-same}
 use Rattle.module_flips.specs.Flips.{first_slot_in, with_put_at}
 use Rattle.module_flips.specs.Stops.{IsOneOf, LeftIn}
 use Rattle.module_flips.proofs.Freed.{at-seat, changed, new-at, seat-dimm, stands-after}

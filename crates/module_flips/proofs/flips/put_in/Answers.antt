@@ -1,5 +1,5 @@
 use Rattle.std.proofs.Common.{sym, ap, subst, ◌∙◌}
-use Rattle.region_sets.specs.declared.modules.ModuleArea.{ModuleArea}
+use Rattle.region_labels.specs.declared.modules.ModuleArea.{ModuleArea}
 use Rattle.module_flips.specs.Flips.{IsAreaOf, first_slot_in, standing_in, with_put}
 use Rattle.module_flips.specs.Stored.{StoredAs}
 use Rattle.module_flips.proofs.Put.{put-left}

@@ -2,7 +2,7 @@ use Rattle.std.proofs.Common.{Option, sym, ap, ◌∙◌}
 use Rattle.std.specs.Prelude.{option_map}
 use Rattle.std.specs.Option.{option_and_then}
 use Rattle.view_types.specs.declared.refusal.Refusal.TheVariants.{NameInUse}
-use Rattle.region_lookups.specs.declared.named.Named.{Named}
+use Rattle.region_labels.specs.declared.named.Named.{Named}
 use Rattle.namespace_commands.specs.Create.{first_named}
 use Rattle.namespace_commands.proofs.Refused.{name-is}
 use Rattle.namespace_commands.proofs.create_refusals.name_in_use.Goals as goal

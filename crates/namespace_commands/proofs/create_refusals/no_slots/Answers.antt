@@ -1,7 +1,7 @@
 use Rattle.std.proofs.Common.{sym, ap, ◌∙◌}
 use Rattle.std.specs.Prelude.{option_map}
 use Rattle.view_types.specs.declared.refusal.Refusal.TheVariants.{NoSlots}
-use Rattle.region_lookups.specs.declared.positions.ModuleSpare.{ModuleSpare}
+use Rattle.region_labels.specs.declared.positions.ModuleSpare.{ModuleSpare}
 use Rattle.namespace_commands.proofs.Refused.{slots-is}
 use Rattle.namespace_commands.proofs.create_refusals.no_slots.Goals as goal
 

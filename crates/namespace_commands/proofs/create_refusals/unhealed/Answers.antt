@@ -1,7 +1,7 @@
 use Rattle.std.proofs.Common.{None, sym, ◌∙◌}
 use Rattle.std.specs.Prelude.{if◌then◌else◌, is_some, option_map}
 use Rattle.view_types.specs.declared.refusal.Refusal.TheVariants.{Unhealed}
-use Rattle.region_lookups.specs.declared.positions.ModuleSpare.{ModuleSpare}
+use Rattle.region_labels.specs.declared.positions.ModuleSpare.{ModuleSpare}
 use Rattle.namespace_commands.proofs.Refused.{healed-is, unhealed-is}
 use Rattle.namespace_commands.proofs.create_refusals.unhealed.Goals as goal
 

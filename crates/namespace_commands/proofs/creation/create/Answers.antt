@@ -7,14 +7,14 @@ use Rattle.rig_trait.specs.Frames.{LeavesOnly}
 use Rattle.rig_trait.proofs.Lying.{at_ok}
 use Rattle.region_map.specs.declared.platform.Region.{Region}
 use Rattle.region_map.specs.Platforms.{region_at}
-use Rattle.region_sets.specs.Modules.{dimm_of, size_in}
+use Rattle.region_labels.specs.Modules.{dimm_of, size_in}
 use Rattle.module_flips.specs.Flips.{IsSizedIn}
-use Rattle.region_sets.specs.Regions.{handles}
+use Rattle.region_labels.specs.Regions.{handles}
 use Rattle.module_flips.specs.Stops.{LeftIn, WritesAmong}
 use Rattle.module_flips.specs.Stored.{StandsIn}
 use Rattle.module_flips.proofs.Standing.{stands}
 use Rattle.module_flips.proofs.Turned.{no_flip}
-use Rattle.namespace_staging.proofs.Records.{no_write}
+use Rattle.namespace_passes.proofs.Records.{no_write}
 use Rattle.label_sets.specs.Sets.{StoredSets, labels_in, state_in}
 use Rattle.table_steps.specs.Create.{Creates, IsCreated}
 use Rattle.namespace_commands.specs.Create.{HasChangeCause, IsBeforeOrAfter, IsCreateRefusal, IsNewSpace, WhereRefused, modules_of}

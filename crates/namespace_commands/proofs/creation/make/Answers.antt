@@ -1,9 +1,9 @@
 use Rattle.std.proofs.Common.{ℕ, sym, ap, ◌∙◌}
 use Rattle.view_types.specs.declared.reply.Reply.TheVariants.{Created}
 use Rattle.label_table.specs.Spaces.{Space}
-use Rattle.region_sets.specs.Regions.{handles}
-use Rattle.namespace_staging.proofs.Flips.{sized-on}
-use Rattle.namespace_staging.specs.Staged.{new_space}
+use Rattle.region_labels.specs.Regions.{handles}
+use Rattle.namespace_passes.proofs.StagedFlips.{sized-on}
+use Rattle.namespace_passes.specs.Staged.{new_space}
 use Rattle.label_sets.specs.Sets.{labels_in, state_in}
 use Rattle.table_steps.specs.Changes.{least_spare}
 use Rattle.namespace_commands.specs.Create.{IsBeforeOrAfter, IsTableOf, IsTableOrWith}

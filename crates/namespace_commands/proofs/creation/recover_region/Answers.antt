@@ -4,7 +4,7 @@ use Rattle.region_map.specs.Platforms.{region_at}
 use Rattle.label_table.specs.Statuses.{RegionReady, status}
 use Rattle.label_sets.specs.Sets.{labels_in, platform_in}
 use Rattle.recovery.specs.declared.region.RecoverFault.{RecoverFault}
-use Rattle.region_sets.specs.Regions.{handles}
+use Rattle.region_labels.specs.Regions.{handles}
 use Rattle.recovery.specs.Recovery.{HasCause, HasCauseOf, unhealed_at, unhealed_by}
 use Rattle.namespace_commands.proofs.AcceptedCreates.{has-free, healable, of-found, unhealed-none}
 use Rattle.namespace_commands.proofs.Refused.{found-in}

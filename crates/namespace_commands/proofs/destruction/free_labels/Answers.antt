@@ -1,11 +1,11 @@
 use Rattle.std.proofs.Common.{◌≡◌, inl, List, Some, Ok, Err, sym, ap, ◌∙◌}
 use Rattle.region_map.specs.declared.platform.Region.{Region}
 use Rattle.region_map.specs.Platforms.{region_at}
-use Rattle.region_sets.specs.Fates.{with_regions}
-use Rattle.region_sets.specs.Regions.{handles}
-use Rattle.namespace_dropping.specs.Dropping.{IsBeforeOrWithout}
-use Rattle.namespace_healing.proofs.Flipping.{on_ok}
-use Rattle.namespace_staging.proofs.Flips.{sized-on}
+use Rattle.region_labels.specs.Fates.{with_regions}
+use Rattle.region_labels.specs.Regions.{handles}
+use Rattle.namespace_passes.specs.Dropping.{IsBeforeOrWithout}
+use Rattle.namespace_passes.proofs.HealFlips.{on_ok}
+use Rattle.namespace_passes.proofs.StagedFlips.{sized-on}
 use Rattle.label_sets.specs.Dropping.{CanDropIn}
 use Rattle.label_sets.specs.Healing.{CanHealIn}
 use Rattle.label_sets.specs.Sets.{labels_in, platform_in}

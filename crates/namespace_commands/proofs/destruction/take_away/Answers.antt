@@ -1,6 +1,6 @@
 use Rattle.std.proofs.Common.{inl, Ok, Err, sym, ◌∙◌}
-use Rattle.region_sets.specs.Regions.{handles}
-use Rattle.namespace_healing.proofs.Flipping.{on_ok}
+use Rattle.region_labels.specs.Regions.{handles}
+use Rattle.namespace_passes.proofs.HealFlips.{on_ok}
 use Rattle.namespace_commands.specs.Commands.{IsTableOrWithout}
 use Rattle.namespace_commands.specs.Create.{IsTableOf}
 use Rattle.namespace_commands.proofs.ChangedSpaces.{can-heal, freed-fits, freed-state}

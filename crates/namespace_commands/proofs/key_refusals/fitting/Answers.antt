@@ -3,8 +3,8 @@ use Rattle.std.specs.Option.{option_and_then}
 use Rattle.cmd_words.specs.declared.name_keys.NameKey.{NameKey}
 use Rattle.region_map.specs.declared.platform.Region.{Region}
 use Rattle.label_table.proofs.ListTests.{some_is}
-use Rattle.region_lookups.specs.Named.{named_among, named_in}
-use Rattle.region_sets.specs.Marks.{listed_in, namespace_at}
+use Rattle.region_labels.specs.Named.{named_among, named_in}
+use Rattle.region_labels.specs.Marks.{listed_in, namespace_at}
 use Rattle.label_sets.specs.Sets.{labels_in}
 use Rattle.table_steps.specs.Namespaces.{fitting}
 use Rattle.namespace_commands.proofs.Fitting.{name-fits, named_by, uuid-fits}

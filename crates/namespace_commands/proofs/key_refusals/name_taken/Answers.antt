@@ -4,7 +4,7 @@ use Rattle.std.specs.Option.{option_and_then}
 use Rattle.view_types.specs.declared.namespaces.Namespace.{Namespace}
 use Rattle.view_types.specs.declared.refusal.Refusal.TheVariants.{NameInUse}
 use Rattle.region_map.specs.declared.platform.Region.{Region}
-use Rattle.region_lookups.specs.Spaces.{has_name_beside, listed_spaces}
+use Rattle.region_labels.specs.ListedSpaces.{has_name_beside, listed_spaces}
 use Rattle.label_sets.specs.Sets.{labels_in}
 use Rattle.namespace_commands.proofs.Fitting.{taken-is}
 use Rattle.namespace_commands.proofs.key_refusals.name_taken.Goals as goal

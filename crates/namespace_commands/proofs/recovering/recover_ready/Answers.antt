@@ -1,7 +1,7 @@
 use Rattle.std.proofs.Common.{◌≡◌, List, Some, None, Err, ℕ, sym, ap, ◌∙◌}
 use Rattle.region_map.specs.declared.platform.Region.{Region}
 use Rattle.region_map.specs.Platforms.{region_at}
-use Rattle.region_sets.specs.Fates.{with_regions}
+use Rattle.region_labels.specs.Fates.{with_regions}
 use Rattle.label_table.specs.Statuses.{RegionReady, status}
 use Rattle.label_sets.specs.Sets.{labels_in, platform_in}
 use Rattle.recovery.specs.declared.region.RecoverFault.{RecoverFault}

@@ -1,6 +1,6 @@
 use Rattle.std.proofs.Common.{ℕ, [], ◌∷◌, Ok, Err, sym, ◌∙◌}
 use Rattle.view_types.specs.declared.reply.Reply.TheVariants.{Released}
-use Rattle.module_sweeps.specs.Releases.{IsBeforeOrReleased}
+use Rattle.module_flips.specs.Releases.{IsBeforeOrReleased}
 use Rattle.label_sets.specs.Sets.{labels_in, platform_in, state_in}
 use Rattle.table_steps.specs.Release.{Releases}
 use Rattle.namespace_commands.proofs.Passes.{done-change, failed-change, memory-change, refused-change}

@@ -2,7 +2,7 @@ use Rattle.std.proofs.Common.{sym, subst, ◌∙◌}
 use Rattle.region_map.specs.declared.platform.Region.{Region}
 use Rattle.label_sets.specs.Healing.{CanHealIn}
 use Rattle.label_table.proofs.ListTests.{some_is}
-use Rattle.namespace_healing.proofs.Flipping.{on_ok}
+use Rattle.namespace_passes.proofs.HealFlips.{on_ok}
 use Rattle.recovery.proofs.Healed.{can-heal, healed-less}
 use Rattle.recovery.proofs.heals.heal_one.Goals as goal
 

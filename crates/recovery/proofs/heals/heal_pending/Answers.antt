@@ -1,5 +1,5 @@
 use Rattle.std.proofs.Common.{◌≤◌, ◌<◌, refl, sym, ◌∙◌, arith}
-use Rattle.region_sets.specs.Regions.{handles}
+use Rattle.region_labels.specs.Regions.{handles}
 use Rattle.label_sets.specs.Sets.{labels_in}
 use Rattle.recovery.specs.Recovery.{pending_count}
 use Rattle.recovery.proofs.Healed.{can-still, none-left}

@@ -1,7 +1,7 @@
 use Rattle.std.proofs.Common.{◌≡◌, ◌≢◌, ◌≤◌, ℕ, false, List, map}
 use Rattle.std.specs.List.{All}
 use Rattle.rig_trait.specs.Frames.{FailsAt, IsTold}
-use Rattle.region_sets.specs.Regions.{handles}
+use Rattle.region_labels.specs.Regions.{handles}
 use Rattle.module_flips.specs.Stored.{StandsIn}
 use Rattle.module_flips.specs.Together.{free_slots}
 use Rattle.label_sets.specs.Sets.{labels_in, state_in}

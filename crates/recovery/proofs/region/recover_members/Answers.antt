@@ -1,8 +1,8 @@
-use Rattle.region_sets.specs.Regions.{handles}
+use Rattle.region_labels.specs.Regions.{handles}
 use Rattle.label_sets.specs.Sets.{labels_in}
 use Rattle.label_sets.proofs.Stageable.{ready-all}
-use Rattle.namespace_healing.proofs.Flipping.{on_ok}
-use Rattle.namespace_healing.proofs.Passing.{cause-on}
+use Rattle.namespace_passes.proofs.HealFlips.{on_ok}
+use Rattle.namespace_passes.proofs.Passing.{cause-on}
 use Rattle.recovery.proofs.Healed.{can-after, recovered}
 use Rattle.recovery.proofs.Joined.{sized-on, step-on, stands-on}
 use Rattle.recovery.proofs.region.recover_members.Goals as goal

@@ -1,9 +1,9 @@
 use Rattle.std.proofs.Common.{◌≡◌, ℕ, ◌<◌, true, List, get_or, length, subst, sym, ap}
-use Rattle.module_labels.specs.Labels.{is_ready}
+use Rattle.label_codec.specs.ModuleLabels.{is_ready}
 use Rattle.label_area.specs.Flips.{is_among}
 use Rattle.region_map.specs.declared.platform.Member.{Member}
 use Rattle.region_map.specs.declared.platform.Region.{Region}
-use Rattle.region_sets.specs.Regions.{handles}
+use Rattle.region_labels.specs.Regions.{handles}
 use Rattle.label_table.specs.Belonging.{no_member}
 use Rattle.label_sets.specs.Sets.{labels_in}
 use Rattle.recovery.proofs.Swept.{member-known, member-ready, swept-cause, swept-step}

@@ -1,5 +1,5 @@
 use Rattle.std.proofs.Common.{◌≡◌, length, refl, sym, ◌∙◌, arith}
-use Rattle.region_sets.specs.Regions.{handles}
+use Rattle.region_labels.specs.Regions.{handles}
 use Rattle.recovery.proofs.Joined.{no-step, sized-on, step-on}
 use Rattle.recovery.proofs.Swept.{all-free, free-more, ready-still}
 use Rattle.recovery.proofs.sweeps.sweep_members.Goals as goal

@@ -2,7 +2,7 @@ use Rattle.std.proofs.Common.{◌≡◌, ◌<◌, ℕ, false}
 use Rattle.std.specs.List.{All}
 use Rattle.rig_trait.specs.Frames.{FailsAt, IsTold}
 use Rattle.label_table.specs.Belonging.{member_at}
-use Rattle.region_sets.specs.Regions.{handles}
+use Rattle.region_labels.specs.Regions.{handles}
 use Rattle.module_flips.specs.Stored.{StandsIn}
 use Rattle.label_sets.specs.Sets.{state_in}
 use Rattle.label_sets.specs.Sweeps.{IsFreeAsSpare}

@@ -1,5 +1,5 @@
 use Rattle.std.proofs.Common.{◌≡◌, ◌≤◌, ◌&&◌, not}
-use Rattle.module_labels.specs.Labels.{count, has}
+use Rattle.label_codec.specs.ModuleLabels.{count, has}
 use Rattle.label_table.specs.Fates.{is_dead}
 use Rattle.label_table.specs.Plain.{labels_in, module_in}
 use Rattle.table_steps.proofs.plain.uuid_count.Given as goal

@@ -1,7 +1,7 @@
 use Rattle.std.proofs.Common.{◌≡◌, find, not, Some, sym, ap, ◌∙◌}
 use Rattle.std.specs.Option.{option_copied}
 use Rattle.std.proofs.lemmas.Bool.{and_parts}
-use Rattle.module_labels.specs.Labels.{Labels}
+use Rattle.label_codec.specs.ModuleLabels.{Labels}
 use Rattle.region_map.specs.declared.platform.Region.{Region}
 use Rattle.label_table.specs.Plain.{labels_in}
 use Rattle.label_table.specs.Wholes.{all_ready}

@@ -7,12 +7,12 @@ use Rattle.std.proofs.lemmas.Result.{on_ok_weaker}
 use Rattle.region_map.specs.declared.platform.Region.{Region}
 use Rattle.region_map.specs.Platforms.{region_at}
 use Rattle.label_table.specs.Statuses.{RegionReady, status}
-use Rattle.region_sets.specs.declared.modules.LoadedModule.{LoadedModule}
-use Rattle.region_sets.specs.declared.region.RegionLabels.{RegionLabels}
-use Rattle.region_sets.specs.Modules.{labels_in}
+use Rattle.region_labels.specs.declared.modules.LoadedModule.{LoadedModule}
+use Rattle.region_labels.specs.declared.region.RegionLabels.{RegionLabels}
+use Rattle.region_labels.specs.Modules.{labels_in}
 use Rattle.module_flips.specs.Stored.{StandsIn}
-use Rattle.namespace_healing.specs.Healing.{CanHeal}
-use Rattle.namespace_marking.specs.Renaming.{IsRenamed}
+use Rattle.namespace_passes.specs.Healing.{CanHeal}
+use Rattle.namespace_passes.specs.Renaming.{IsRenamed}
 use Rattle.label_sets.specs.Kept.{IsKnownFree}
 use Rattle.label_sets.specs.Renaming.{IsRenamedIn}
 use Rattle.label_sets.specs.Sets.{StoredSets, platform_in}

@@ -4,9 +4,9 @@ use Rattle.std.specs.Option.{option_copied}
 use Rattle.std.specs.Result.{OnOk}
 use Rattle.rig_trait.specs.Frames.{LeavesOnly}
 use Rattle.label_table.specs.Tables.{table}
-use Rattle.region_sets.specs.declared.region.RegionLabels.{RegionLabels}
-use Rattle.region_sets.specs.Fates.{region_in}
-use Rattle.region_sets.specs.Modules.{dimm_of}
+use Rattle.region_labels.specs.declared.region.RegionLabels.{RegionLabels}
+use Rattle.region_labels.specs.Fates.{region_in}
+use Rattle.region_labels.specs.Modules.{dimm_of}
 use Rattle.module_flips.specs.Stops.{LeftIn}
 use Rattle.module_flips.specs.Stored.{StandsIn}
 use Rattle.label_sets.specs.Healing.{CanHealIn}

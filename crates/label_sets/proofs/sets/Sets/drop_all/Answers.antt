@@ -7,9 +7,9 @@ use Rattle.std.proofs.lemmas.Option.{same_Some}
 use Rattle.std.proofs.lemmas.Result.{on_ok_weaker}
 use Rattle.region_map.specs.declared.platform.Region.{Region}
 use Rattle.region_map.specs.Platforms.{region_at}
-use Rattle.region_sets.specs.Fates.{platform_of, region_in, with_regions}
+use Rattle.region_labels.specs.Fates.{platform_of, region_in, with_regions}
 use Rattle.module_flips.specs.Stored.{StandsIn}
-use Rattle.namespace_dropping.specs.Dropping.{IsDropped}
+use Rattle.namespace_passes.specs.Dropping.{IsDropped}
 use Rattle.label_sets.specs.Dropping.{CanDropAt, GainsSlots, HasNoneIn}
 use Rattle.label_sets.specs.Sets.{StoredSets, platform_in}
 use Rattle.label_sets.specs.Views.{IsPlaceOf}

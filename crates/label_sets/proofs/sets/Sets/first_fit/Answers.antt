@@ -1,8 +1,8 @@
 use Rattle.std.proofs.Common.{◌<◌, List, Some, length, map, sym, subst, arith}
 use Rattle.std.proofs.lemmas.List.{length-map}
-use Rattle.region_sets.specs.declared.modules.LoadedModule.{LoadedModule}
-use Rattle.region_sets.specs.declared.region.RegionLabels.{RegionLabels}
-use Rattle.region_sets.specs.Fates.{region_in}
+use Rattle.region_labels.specs.declared.modules.LoadedModule.{LoadedModule}
+use Rattle.region_labels.specs.declared.region.RegionLabels.{RegionLabels}
+use Rattle.region_labels.specs.Fates.{region_in}
 use Rattle.label_sets.specs.Kept.{IsFree, IsKnownFree}
 use Rattle.label_sets.specs.Views.{IsPlaceOf}
 use Rattle.label_sets.proofs.FreeRoom.{element, fit_by, fits_first, known-free}

@@ -1,7 +1,7 @@
 use Rattle.std.proofs.Common.{◌≡◌, List, sym, ap, ◌∙◌}
 use Rattle.label_table.specs.Namespaces.{namespaces}
-use Rattle.region_sets.specs.declared.modules.LoadedModule.{LoadedModule}
-use Rattle.region_sets.specs.Modules as modules
+use Rattle.region_labels.specs.declared.modules.LoadedModule.{LoadedModule}
+use Rattle.region_labels.specs.Modules as modules
 use Rattle.label_sets.specs.Kept.{IsFree}
 use Rattle.label_sets.specs.Sets.{StoredSets}
 use Rattle.label_sets.proofs.FreeRoom.{element, known-free}

@@ -7,31 +7,31 @@ use Rattle.std.proofs.lemmas.Bool.{false≢true}
 use Rattle.std.proofs.lemmas.List.{with_items_is}
 use Rattle.rig_trait.specs.Areas.{Areas}
 use Rattle.rig_trait.specs.Frames.{LeavesOnly, Reads}
-use Rattle.module_labels.specs.declared.kind.AreaKind.TheVariants as kind
-use Rattle.module_labels.specs.Labels.{IsBounded, Labels}
+use Rattle.label_codec.specs.declared.kind.AreaKind.TheVariants as kind
+use Rattle.label_codec.specs.ModuleLabels.{IsBounded, Labels}
 use Rattle.label_area.specs.Modules.{area_kind}
 use Rattle.label_area.specs.VacantAreas.{IsVacantArea, IsVacantOf}
 use Rattle.label_table.specs.Belonging.{IsDisjoint}
 use Rattle.label_table.specs.Settling.{IsInitialised}
 use Rattle.label_table.specs.Tables.{state}
-use Rattle.region_sets.specs.declared.modules.LoadedModule.{LoadedModule}
-use Rattle.region_sets.specs.declared.modules.ModuleArea.TheVariants.{Uninit}
-use Rattle.region_sets.specs.Fates.{platform_of}
-use Rattle.region_sets.specs.Modules.{EachOnce, dimm_of, size_in}
-use Rattle.region_sets.specs.Modules as modules
-use Rattle.region_sets.specs.Regions.{IsOver}
+use Rattle.region_labels.specs.declared.modules.LoadedModule.{LoadedModule}
+use Rattle.region_labels.specs.declared.modules.ModuleArea.TheVariants.{Uninit}
+use Rattle.region_labels.specs.Fates.{platform_of}
+use Rattle.region_labels.specs.Modules.{EachOnce, dimm_of, size_in}
+use Rattle.region_labels.specs.Modules as modules
+use Rattle.region_labels.specs.Regions.{IsOver}
 use Rattle.module_flips.specs.Flips.{HasLabelsInUse, IsOwn}
 use Rattle.module_flips.specs.Stored.{StandsIn}
-use Rattle.module_labels.specs.Flips.{with_module}
+use Rattle.label_codec.specs.ModuleChanges.{with_module}
 use Rattle.module_flips.specs.Stops.{IsOneOf, LeftIn}
 use Rattle.label_sets.specs.Init.{IsInitialisedTo, initialised_state, slots_at, state_at, vacant_module}
 use Rattle.label_sets.specs.Kept.{AllFree, IsKnownFree, IsKnownReady}
 use Rattle.label_sets.specs.Sets.{StoredSets, labels_in, platform_in, state_in}
-use Rattle.module_sweeps.specs.Sweeps.{ChangesOnly, HasSlotsWithin}
+use Rattle.module_flips.specs.Sweeps.{ChangesOnly, HasSlotsWithin}
 use Rattle.label_sets.specs.Views.{area_state}
 use Rattle.label_sets.proofs.InitialisedSets.{had-none, initialised-with, refused-so, settles, unfailed, slots-by, was-unready}
 use Rattle.label_sets.proofs.InitSets.{init-state-left, initialised-same, none-left, reads-left, stands-here, state-here, uninit-at, uninit-is, uninit-slots, uninit-state}
-use Rattle.module_sweeps.proofs.Sweeping.{all-bounded}
+use Rattle.module_flips.proofs.Sweeping.{all-bounded}
 use Rattle.label_sets.proofs.sets.Sets.init.Goals as goal
 
 pub returns-in_default-clause-refused : goal.returns-in_default-clause-refused

@@ -1,7 +1,7 @@
 use Rattle.std.proofs.Common.{◌<◌, List, Some, length, map, subst, arith}
 use Rattle.std.proofs.lemmas.List.{length-map}
-use Rattle.region_sets.specs.declared.region.RegionLabels.{RegionLabels}
-use Rattle.region_sets.specs.Fates.{region_in}
+use Rattle.region_labels.specs.declared.region.RegionLabels.{RegionLabels}
+use Rattle.region_labels.specs.Fates.{region_in}
 use Rattle.label_sets.specs.Views.{IsPlaceOf}
 use Rattle.label_sets.proofs.FreeRoom.{kept_region}
 use Rattle.label_sets.proofs.sets.Sets.kept.Goals as goal

@@ -8,12 +8,12 @@ use Rattle.rig_trait.specs.Frames.{LeavesOnly}
 use Rattle.label_table.specs.Tables.{table}
 use Rattle.region_map.specs.declared.platform.Region.{Region}
 use Rattle.region_map.specs.Platforms.{region_at}
-use Rattle.region_sets.specs.declared.region.RegionLabels.{RegionLabels}
-use Rattle.region_sets.specs.Fates.{region_in}
-use Rattle.region_sets.specs.Modules.{dimm_of}
+use Rattle.region_labels.specs.declared.region.RegionLabels.{RegionLabels}
+use Rattle.region_labels.specs.Fates.{region_in}
+use Rattle.region_labels.specs.Modules.{dimm_of}
 use Rattle.module_flips.specs.Stops.{LeftIn}
 use Rattle.module_flips.specs.Stored.{StandsIn}
-use Rattle.namespace_marking.specs.Marking.{IsMarked}
+use Rattle.namespace_passes.specs.Marking.{IsMarked}
 use Rattle.label_sets.specs.Healing.{CanHealIn}
 use Rattle.label_sets.specs.Kept.{IsKnownReady, shown}
 use Rattle.label_sets.specs.Marking.{IsMarkedIn}

@@ -1,6 +1,6 @@
 use Rattle.std.proofs.Common.{◌≡◌, ◌<◌, List, length, get_or, ap, subst, ◌∙◌}
 use Rattle.region_map.proofs.Zips.{zip_more}
-use Rattle.region_sets.specs.declared.modules.LoadedModule.{LoadedModule}
+use Rattle.region_labels.specs.declared.modules.LoadedModule.{LoadedModule}
 use Rattle.label_sets.specs.Sets.{StoredSets, labels_in, platform_in}
 use Rattle.label_sets.specs.Views.{IsModuleView}
 use Rattle.label_sets.proofs.sets.Sets.module_views.Goals as goal

@@ -1,8 +1,8 @@
 use Rattle.std.proofs.Common.{Option, sym, ap, ◌∙◌}
 use Rattle.std.specs.Option.{option_and_then}
 use Rattle.region_map.specs.declared.platform.Region.{Region}
-use Rattle.region_sets.specs.Marks.{namespace_at}
-use Rattle.region_sets.specs.Modules as modules
+use Rattle.region_labels.specs.Marks.{namespace_at}
+use Rattle.region_labels.specs.Modules as modules
 use Rattle.label_sets.specs.Sets.{StoredSets, labels_in}
 use Rattle.label_sets.proofs.sets.Sets.namespace.Goals as goal
 

@@ -1,6 +1,6 @@
 use Rattle.std.proofs.Common.{◌≡◌, List, Option, Some, map, sym, subst, ap, ◌∙◌}
 use Rattle.region_map.specs.declared.platform.Region.{Region}
-use Rattle.region_sets.specs.Fates.{region_in}
+use Rattle.region_labels.specs.Fates.{region_in}
 use Rattle.label_sets.specs.Sets.{StoredSets, labels_in, platform_in}
 use Rattle.label_sets.specs.Views.{IsPlaceOf, IsViewOf}
 use Rattle.label_sets.proofs.Viewed.{no_region}

@@ -1,7 +1,7 @@
 use Rattle.std.proofs.Common.{◌≡◌, ◌<◌, length, map, subst, arith}
 use Rattle.std.proofs.lemmas.List.{length-map}
 use Rattle.region_map.proofs.Zips.{zip_more}
-use Rattle.region_sets.specs.Fates.{region_in}
+use Rattle.region_labels.specs.Fates.{region_in}
 use Rattle.label_sets.specs.Sets.{StoredSets, labels_in, platform_in}
 use Rattle.label_sets.specs.Views.{IsRegionView}
 use Rattle.label_sets.proofs.Viewed.{no_region}

@@ -2,19 +2,19 @@ use Rattle.std.proofs.Common.{◌≡◌, ◌<◌, false, true, List, length, map
 use Rattle.std.specs.List.{All}
 use Rattle.std.specs.Vec.{with_items}
 use Rattle.rig_trait.specs.Frames.{FailsAt, LeavesOnly, WritesTo}
-use Rattle.module_labels.specs.Labels.{has}
+use Rattle.label_codec.specs.ModuleLabels.{has}
 use Rattle.region_map.specs.declared.platform.Region.{Region}
 use Rattle.label_table.specs.Fates.{held_count}
 use Rattle.label_table.specs.Tables.{state}
-use Rattle.region_sets.specs.declared.modules.LoadedModule.{LoadedModule}
-use Rattle.region_sets.specs.declared.region.RegionLabels.{RegionLabels}
-use Rattle.region_sets.specs.Fates.{platform_of, region_in, with_regions}
-use Rattle.region_sets.specs.Modules.{dimm_of, labels_in}
-use Rattle.region_changes.specs.Changes.{dimm_at}
+use Rattle.region_labels.specs.declared.modules.LoadedModule.{LoadedModule}
+use Rattle.region_labels.specs.declared.region.RegionLabels.{RegionLabels}
+use Rattle.region_labels.specs.Fates.{platform_of, region_in, with_regions}
+use Rattle.region_labels.specs.Modules.{dimm_of, labels_in}
+use Rattle.region_labels.specs.Changes.{dimm_at}
 use Rattle.module_flips.specs.Stops.{LeftIn}
 use Rattle.module_flips.specs.Stored.{StandsIn}
-use Rattle.module_sweeps.specs.Releases.{IsBeforeOrReleased, IsReleasedTo, released_state}
-use Rattle.module_sweeps.specs.Sweeps.{ChangesOnly}
+use Rattle.module_flips.specs.Releases.{IsBeforeOrReleased, IsReleasedTo, released_state}
+use Rattle.module_flips.specs.Sweeps.{ChangesOnly}
 use Rattle.label_sets.specs.Kept.{IsKnownFree}
 use Rattle.label_sets.specs.Sets.{StoredSets, platform_in, state_in}
 use Rattle.label_sets.specs.Sets as sets

@@ -5,9 +5,9 @@ use Rattle.std.specs.Vec.{with_items}
 use Rattle.std.proofs.lemmas.Option.{IfSome_then}
 use Rattle.extent_alloc.specs.Free.{FreeSpace}
 use Rattle.label_table.specs.Belonging.{IsDisjoint}
-use Rattle.region_sets.specs.Fates.{with_regions}
-use Rattle.region_sets.specs.Modules.{labels_in}
-use Rattle.region_sets.specs.declared.region.RegionLabels.{RegionLabels}
+use Rattle.region_labels.specs.Fates.{with_regions}
+use Rattle.region_labels.specs.Modules.{labels_in}
+use Rattle.region_labels.specs.declared.region.RegionLabels.{RegionLabels}
 use Rattle.label_sets.specs.Kept.{AllFree, IsReadyIn}
 use Rattle.label_sets.specs.Room.{HaveExtentRoom, without_room}
 use Rattle.label_sets.specs.Sets.{StoredSets}

@@ -5,8 +5,8 @@ use Rattle.std.specs.Result.{OnOk}
 use Rattle.std.specs.Vec.{with_items}
 use Rattle.region_map.specs.declared.platform.Region.{Region}
 use Rattle.region_map.specs.Platforms.{region_at}
-use Rattle.region_sets.specs.Fates.{platform_of, region_in, with_regions}
-use Rattle.region_sets.specs.Modules.{dimm_of}
+use Rattle.region_labels.specs.Fates.{platform_of, region_in, with_regions}
+use Rattle.region_labels.specs.Modules.{dimm_of}
 use Rattle.module_flips.specs.Together.{IsTogether}
 use Rattle.module_flips.specs.Stored.{StandsIn}
 use Rattle.label_sets.specs.Kept.{IsKnownFree, shown}

@@ -2,10 +2,10 @@ use Rattle.std.proofs.Common.{◌<◌, List, Some, length, map, subst, ◌∙◌
 use Rattle.std.specs.Prelude.{IfSome}
 use Rattle.std.proofs.lemmas.List.{length-map}
 use Rattle.label_table.specs.Statuses.{status}
-use Rattle.region_sets.specs.declared.region.RegionLabels.{RegionLabels}
-use Rattle.region_sets.specs.Fates.{region_in}
-use Rattle.region_sets.specs.Modules.{labels_in}
-use Rattle.region_sets.specs.Statuses.{shown_status}
+use Rattle.region_labels.specs.declared.region.RegionLabels.{RegionLabels}
+use Rattle.region_labels.specs.Fates.{region_in}
+use Rattle.region_labels.specs.Modules.{labels_in}
+use Rattle.region_labels.specs.Statuses.{shown_status}
 use Rattle.label_sets.specs.Views.{IsPlaceOf}
 use Rattle.label_sets.specs.Kept.{IsReadyIn}
 use Rattle.label_sets.proofs.FreeRoom.{tells_status}

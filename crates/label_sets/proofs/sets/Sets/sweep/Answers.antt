@@ -4,12 +4,12 @@ use Rattle.std.specs.Vec.{with_items}
 use Rattle.rig_trait.specs.Frames.{FailsAt, WritesTo}
 use Rattle.region_map.specs.declared.platform.Region.{Region}
 use Rattle.label_table.specs.Tables.{State, table}
-use Rattle.region_sets.specs.declared.modules.LoadedModule.{LoadedModule}
-use Rattle.region_sets.specs.Fates.{platform_of, with_regions}
-use Rattle.region_sets.specs.Modules.{dimm_of, labels_in}
-use Rattle.region_changes.specs.Changes.{dimm_at}
+use Rattle.region_labels.specs.declared.modules.LoadedModule.{LoadedModule}
+use Rattle.region_labels.specs.Fates.{platform_of, with_regions}
+use Rattle.region_labels.specs.Modules.{dimm_of, labels_in}
+use Rattle.region_labels.specs.Changes.{dimm_at}
 use Rattle.module_flips.specs.Stored.{StandsIn}
-use Rattle.module_sweeps.specs.Sweeps.{ChangesOnly, IsSweptTo}
+use Rattle.module_flips.specs.Sweeps.{ChangesOnly, IsSweptTo}
 use Rattle.label_sets.specs.Sets.{StoredSets}
 use Rattle.label_sets.proofs.FreeAfter.{known-kept}
 use Rattle.label_sets.proofs.KnownReady.{ready-kept}

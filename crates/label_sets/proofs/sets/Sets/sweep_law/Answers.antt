@@ -1,7 +1,7 @@
 use Rattle.std.proofs.Common.{subst}
-use Rattle.module_labels.specs.Labels.{IsBounded}
+use Rattle.label_codec.specs.ModuleLabels.{IsBounded}
 use Rattle.label_sets.specs.Sets.{StoredSets, labels_in}
-use Rattle.module_sweeps.proofs.Sweeping.{all-bounded}
+use Rattle.module_flips.proofs.Sweeping.{all-bounded}
 use Rattle.label_sets.proofs.TightSlots.{swept-where-free}
 use Rattle.label_sets.proofs.sets.Sets.sweep_law.Goals as goal
 

@@ -1,13 +1,13 @@
 use Rattle.std.proofs.Common.{◌≡◌, List, map, refl, sym, ap, subst, ◌∙◌}
 use Rattle.label_table.specs.Namespaces.{namespaces}
 use Rattle.label_table.specs.Statuses.{status}
-use Rattle.region_sets.specs.declared.modules.LoadedModule.{LoadedModule}
-use Rattle.region_sets.specs.Marks.{listed_in}
-use Rattle.region_sets.specs.Modules as modules
-use Rattle.region_sets.specs.Statuses.{shown_status, space_in}
-use Rattle.region_sets.proofs.Sorted.{unlisted}
+use Rattle.region_labels.specs.declared.modules.LoadedModule.{LoadedModule}
+use Rattle.region_labels.specs.Marks.{listed_in}
+use Rattle.region_labels.specs.Modules as modules
+use Rattle.region_labels.specs.Statuses.{shown_status, space_in}
+use Rattle.region_labels.proofs.Sorted.{unlisted}
 use Rattle.region_map.specs.declared.platform.Region.{Region}
-use Rattle.region_sets.specs.Fates.{platform_of}
+use Rattle.region_labels.specs.Fates.{platform_of}
 use Rattle.label_sets.specs.Sets.{StoredSets, labels_in, platform_in}
 use Rattle.label_sets.specs.Views.{ShowsFree}
 use Rattle.label_sets.proofs.Viewed.{place-inside, region-there, region-viewed}

@@ -1,5 +1,5 @@
 use Rattle.std.proofs.Common.{◌≡◌, ◌≤◌}
-use Rattle.module_labels.specs.Labels.{count, of_uuid}
+use Rattle.label_codec.specs.ModuleLabels.{count, of_uuid}
 use Rattle.label_table.specs.Plain.{module_in}
 use Rattle.label_table.specs.Wholes.{any_label}
 use Rattle.label_table.proofs.plain.ModuleLabels.count.Given as goal

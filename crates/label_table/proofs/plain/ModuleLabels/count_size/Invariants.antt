@@ -1,6 +1,6 @@
 use Rattle.std.proofs.Common.{◌≡◌, ◌≤◌}
 use Rattle.std.specs.Prelude.{◌==◌}
-use Rattle.module_labels.specs.Labels.{count, of_uuid}
+use Rattle.label_codec.specs.ModuleLabels.{count, of_uuid}
 use Rattle.label_table.specs.Plain.{module_in}
 use Rattle.label_table.proofs.plain.ModuleLabels.count_size.Given as goal
 

@@ -1,5 +1,5 @@
 use Rattle.std.proofs.Common.{◌≡◌, None}
-use Rattle.module_labels.specs.Labels.{first_below, of_uuid}
+use Rattle.label_codec.specs.ModuleLabels.{first_below, of_uuid}
 use Rattle.label_table.specs.Plain.{module_in}
 use Rattle.label_table.proofs.plain.ModuleLabels.first.Given as goal
 

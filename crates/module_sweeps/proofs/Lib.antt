@@ -1,9 +1,0 @@
-pub mod Slots
-pub mod Freeing
-pub mod Swept
-pub mod Sweeping
-pub mod Unwanted
-pub mod Released
-pub mod FreedModules
-pub mod SweptModules
-pub mod ReleasedModules

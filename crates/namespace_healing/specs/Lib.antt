@@ -1,4 +1,0 @@
-pub mod Labels
-pub mod Namespaces
-pub mod Healing
-pub mod Passes

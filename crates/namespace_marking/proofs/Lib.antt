@@ -1,4 +1,0 @@
-pub mod Marks
-pub mod Turning
-pub mod Ending
-pub mod Flips

@@ -1,0 +1,46 @@
+use Rattle.std.proofs.Common.{sym, subst}
+use Rattle.region_labels.specs.Fates.{platform_of}
+use Rattle.region_labels.specs.Modules.{labels_in}
+use Rattle.region_labels.specs.Regions.{handles}
+use Rattle.namespace_passes.proofs.HealFlips.{flip-cause, flip-pass, flip-still, no_module, on_ok, replaced-there}
+use Rattle.namespace_passes.proofs.Passing.{no-pass}
+use Rattle.namespace_passes.specs.Marking.{IsMarkedAt}
+use Rattle.namespace_passes.proofs.MarkFlips.{kept-turn, mark-turn}
+use Rattle.namespace_passes.proofs.marking.mark_at.Goals as goal
+
+pub returns-then-is_updating-clause-marked : goal.returns-then-is_updating-clause-marked
+returns-then-is_updating-clause-marked g c =
+    kept-turn c.args.modules.now c.args.regions.now c.args.region.now c.args.uuid.now c.args.position c.requires.within c.requires.can c.place_at-own.result c.place_at-own.ensures (sym c.if-is_updating.ensures)
+
+pub returns-then-is_updating-clause-pass : goal.returns-then-is_updating-clause-pass
+returns-then-is_updating-clause-pass g c = no-pass (handles c.args.region.now) c.args.modules.now c.args.regions.now c.args.rig.now c.requires.can.together
+
+pub put_at-requires-clause-replaces : goal.put_at-requires-clause-replaces
+put_at-requires-clause-replaces g c =
+    replaced-there c.args.modules.now c.args.regions.now c.args.region.now c.args.uuid.now c.args.position c.requires.within c.requires.can c.place_at-own.result c.place_at-own.ensures
+
+pub returns-clause-marked : goal.returns-clause-marked
+returns-clause-marked g c =
+    on_ok c.put_at.result (λ same. subst (λ labels. IsMarkedAt (platform_of c.args.regions.now) c.args.region.now c.args.uuid.now c.args.position (labels_in c.args.modules.now) labels) (sym same)
+    (mark-turn c.args.modules.now c.args.regions.now c.args.region.now c.args.uuid.now c.args.position c.requires.within c.requires.can c.place_at-own.result c.place_at-own.ensures
+    c.marked_label-marked.result c.put_at.ensures.slot_within c.put_at.ensures.slot_free c.marked_label-marked.ensures no_module))
+    (c.put_at.ensures.labels no_module)
+
+pub returns-clause-pass : goal.returns-clause-pass
+returns-clause-pass g c =
+    let ms = c.args.modules.now in
+    let rs = c.args.regions.now in
+    let now = c.put_at.new.modules in
+    let can = c.requires.can in
+    let label = c.marked_label-marked.result in
+    let did = c.put_at.ensures in
+    let turned = mark-turn ms rs c.args.region.now c.args.uuid.now c.args.position c.requires.within can c.place_at-own.result c.place_at-own.ensures label did.slot_within did.slot_free c.marked_label-marked.ensures no_module in
+    let still = flip-still ms rs c.args.region.now c.args.uuid.now c.args.position c.requires.within can c.place_at-own.result c.place_at-own.ensures label did.slot_within did.slot_free
+    c.put_at.result now c.put_at.new.regions did.put did.together did.free_slots (did.regions no_module) did.kept did.kept_regions in
+    flip-pass ms rs c.args.region.now c.args.uuid.now c.args.position c.requires.within can c.place_at-own.result c.place_at-own.ensures label did.slot_within did.slot_free
+    g.R.Shown c.args.rig.now c.put_at.new.rig c.put_at.result now c.put_at.new.regions turned.same_table still (did.labels no_module) did.kept (did.any_moment no_module) did.writes_only did.reads
+
+pub returns-clause-cause : goal.returns-clause-cause
+returns-clause-cause g c =
+    flip-cause c.args.modules.now c.args.regions.now c.args.region.now c.args.uuid.now c.args.position c.requires.within c.requires.can c.place_at-own.result c.place_at-own.ensures
+    g.R.Shown c.args.rig.now c.put_at.new.rig c.put_at.result c.put_at.ensures.cause c.put_at.ensures.names

@@ -1,0 +1,10 @@
+pub mod Labels
+pub mod Namespaces
+pub mod Healing
+pub mod Passes
+pub mod Staged
+pub mod Staging
+pub mod MarkedLabels
+pub mod Marking
+pub mod Renaming
+pub mod Dropping

@@ -1,5 +1,0 @@
-use Rattle.region_changes.proofs.Follows.{HasFreed}
-use Rattle.region_changes.proofs.follow.follow_free_in.Given as goal
-
-abbrev pub invariant-loop-one : goal.invariant-loop-one
-invariant-loop-one l = HasFreed l.modules l.seat l.lost l.one-index l.fn.kept l.kept

@@ -1,9 +1,0 @@
-use Rattle.region_changes.specs.Changes.{dimm_at}
-use Rattle.region_changes.specs.Rooms.{room_after_put}
-use Rattle.region_changes.proofs.AllFollow.{HasFollowed}
-use Rattle.region_changes.proofs.Looped.{AreChanged}
-use Rattle.region_changes.proofs.follow.follow_put.Given as goal
-
-abbrev pub invariant-loop-kept : goal.invariant-loop-kept
-invariant-loop-kept l = AreChanged (HasFollowed l.modules (room_after_put (dimm_at l.modules l.seat) l.lost))
-    l.fn.regions l.kept-index l.regions

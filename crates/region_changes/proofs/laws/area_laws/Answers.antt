@@ -1,8 +1,0 @@
-use Rattle.region_changes.proofs.AreaFlips.{free-loses, put-replaces}
-use Rattle.region_changes.proofs.laws.area_laws.Goals as goal
-
-pub returns-clause-put : goal.returns-clause-put
-returns-clause-put c = put-replaces
-
-pub returns-clause-freed : goal.returns-clause-freed
-returns-clause-freed c = free-loses

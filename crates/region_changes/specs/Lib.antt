@@ -1,6 +1,0 @@
-pub mod SlotLabels
-pub mod Changes
-pub mod Flips
-pub mod Rooms
-pub mod Followed
-pub mod Spaces

@@ -1,8 +1,0 @@
-pub mod Ordered
-pub mod Counted
-mod Leading
-pub mod Neighbours
-pub mod Standing
-pub mod Pendings
-pub mod Reached
-mod Passing
