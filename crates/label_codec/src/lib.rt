@@ -1,4 +1,5 @@
-//! The labels of namespaces as bytes, and how their names are printed (UEFI 2.7, section 13.19).
+//! The labels of namespaces as bytes, how their names are printed, and what a module's area stands for: its kind, and
+//! its labels by slot (UEFI 2.7, section 13.19).
 #![tactic(auto)]
 
 mod flags;

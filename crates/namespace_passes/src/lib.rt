@@ -1,5 +1,5 @@
-//! The heal of a namespace that a stopped command left pending: its labels come to agree with that of position 0, and
-//! none of them is marked as being changed any longer (UEFI 2.7, section 13.19).
+//! The passes over the modules of a region that change one namespace, flip by flip: its labels are staged, healed, marked
+//! as being changed, given another name, or freed (UEFI 2.7, section 13.19).
 #![tactic(auto)]
 
 mod drop_places;

@@ -1,5 +1,5 @@
-//! The labels of a region's modules, as they are loaded: which uuids are namespaces, which labels are held, and which
-//! space is free (UEFI 2.7, section 13.19).
+//! The labels of a region's modules, as they are loaded: which uuids are namespaces, which labels are held, which space
+//! is free, what commands look up there, and how all of it follows a flip (UEFI 2.7, section 13.19).
 #![tactic(auto)]
 
 mod by_slot;
