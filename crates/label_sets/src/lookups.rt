@@ -37,7 +37,7 @@ impl Sets {
         let Some(kept) = self.kept(region) else {
             return None;
         };
-        let Some(space) = region_lookups::first_pending(&self.modules, kept) else {
+        let Some(space) = region_labels::first_pending(&self.modules, kept) else {
             return None;
         };
         Some(space.uuid)
@@ -51,7 +51,7 @@ impl Sets {
         let Some(kept) = self.kept(region) else {
             return None;
         };
-        Some(region_lookups::namespaces_named(&self.modules, kept, name))
+        Some(region_labels::namespaces_named(&self.modules, kept, name))
     }
 
     /// The first namespace of a region with a name and another uuid than this one. `None` exactly where the platform
@@ -63,7 +63,7 @@ impl Sets {
         let Some(kept) = self.kept(region) else {
             return None;
         };
-        region_lookups::other_named(&self.modules, kept, name, uuid)
+        region_labels::other_named(&self.modules, kept, name, uuid)
     }
 
     /// The least device handle of the modules that have a live label with this uuid that is not dead. `None` exactly
@@ -71,7 +71,7 @@ impl Sets {
     pub fn holder_of(&self, uuid: &[u8; 16]) -> Option<u32>
         ensures { IsHolder (platform_in self.now) (labels_in self.now) uuid.now self.now.modules result }
     {
-        region_lookups::holder_of(&self.modules, &self.regions, uuid)
+        region_labels::holder_of(&self.modules, &self.regions, uuid)
     }
 
     /// The first position of a region whose module has fewer slots left for new labels than `least`. `None` exactly
@@ -82,7 +82,7 @@ impl Sets {
         let Some(kept) = self.kept(region) else {
             return None;
         };
-        region_lookups::first_without_spare(&self.modules, &self.regions, kept, least)
+        region_labels::first_without_spare(&self.modules, &self.regions, kept, least)
     }
 
     /// The least multiple of 2 MiB from which `len` offsets of a region are free. `None` exactly where the platform has
