@@ -2,6 +2,7 @@
 
 ghost use Rattle.std.specs.Prelude.{◌≡◌, IfOk};
 ghost use Rattle.table_steps.specs.Plain.{HasFewModules};
+
 use label_codec::{AreaKind, Label};
 use label_table::ModuleLabels;
 use region_map::{Member, Platform, Region};

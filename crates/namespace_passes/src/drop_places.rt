@@ -11,7 +11,7 @@ ghost use Rattle.module_flips.specs.Together.{IsTogether};
 ghost use Rattle.namespace_passes.specs.Healing.{StandsAt};
 ghost use Rattle.namespace_passes.specs.Dropping.{CanDrop, HasOneAt, IsGone, IsKeptOrGone};
 
-use crate::drop_places::LabelPlace;
+use crate::places::LabelPlace;
 use region_labels::{LoadedModule, RegionLabels};
 use region_map::Region;
 use uuid_index::Found;

@@ -9,6 +9,7 @@ ghost use Rattle.label_table.specs.Plain.{labels_in, module_in};
 ghost use Rattle.table_steps.specs.Create.{bad_size_in, keeps_uuid, uuid_in_use};
 ghost use Rattle.table_steps.specs.Plain.{HasFewModules, IsInitialiseReply};
 ghost use Rattle.table_steps.specs.Refusals.{first_below, no_slots_in};
+
 use label_codec::{AreaKind, Label};
 use label_table::{ModuleLabels, has_uuid, is_dead};
 use region_map::{Member, Platform, Region};
