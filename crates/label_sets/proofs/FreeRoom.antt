@@ -14,7 +14,7 @@ use Rattle.region_map.specs.declared.platform.Region.{Region}
 use Rattle.region_map.specs.Platforms.{region_at}
 use Rattle.label_table.specs.Division.{AreFreeExtents, alignment, part_size}
 use Rattle.label_table.specs.Statuses.{status}
-use Rattle.label_table.proofs.Partition.{maximal-one}
+use Rattle.view_types.proofs.Maximal.{one_list}
 use Rattle.label_table.specs.Division.{is_common_free}
 use Rattle.extent_alloc.specs.Free.{FreeSpace}
 use Rattle.region_labels.specs.declared.modules.LoadedModule.{LoadedModule}
@@ -34,7 +34,7 @@ use Rattle.label_sets.specs.Views.{IsPlaceOf}
 -- the free extents that are kept are the region's
 kept_is : (P : Platform) (L : Labels) (r : Region) (free : FreeSpace) → AreFreeExtents P L r free.extents → (extents : List Extent) → AreFreeExtents P L r extents
     → greatest_aligned alignment free.extents ≡ greatest_aligned alignment extents
-kept_is P L r free are extents other = ap (greatest_aligned alignment) (maximal-one (part_size r) (is_common_free P L r) free.extents extents are other)
+kept_is P L r free are extents other = ap (greatest_aligned alignment) (one_list (part_size r) (is_common_free P L r) free.extents extents are other)
 
 -- what stands at a place
 pub element : {X : Type 0} (xs : List X) (k : ℕ) → k < length xs → (x : X) × (x ≡ get_or xs k x)
@@ -118,7 +118,7 @@ module _ (inside : Inside) (sets : StoredSets) (same : shown inside ≡ sets) (i
       let L = modules.labels_in inside.modules.items in
       let r = kept.region in
       subst (λ (s : StoredSets). FitsFirst s index len fit) same (subst (λ (o : Option Region). FitsFirstIn P L len o fit) (sym (region_found inside index place kept lt is_region found))
-      (λ extents are. subst (λ es. IsFitIn es len fit) (maximal-one (part_size r) (is_common_free P L r) free.extents extents whole.extents are) fits))
+      (λ extents are. subst (λ es. IsFitIn es len fit) (one_list (part_size r) (is_common_free P L r) free.extents extents whole.extents are) fits))
 
   pub kept_region : (place : ℕ) (kept : RegionLabels) → IsKept inside → place < length inside.regions.items → kept ≡ get_or inside.regions.items place kept → IsPlaceOf (map region_in inside.regions.items) index (Some place)
       → IsKeptRegion sets index kept

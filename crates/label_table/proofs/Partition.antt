@@ -1,20 +1,22 @@
 -- Every offset of a Ready region is in one namespace, or held, or in one free extent, and never in two of these.
-use Rattle.std.proofs.Common.{◌≡◌, ◌⊎◌, inl, inr, ⊎_elim, ℕ, zero, suc, ◌+◌, ◌≤◌, ◌<◌, Bool, true, false, not, ◌&&◌, List, [], ◌∷◌, refl, sym, ap, subst, ◌∙◌, arith}
+use Rattle.std.proofs.Common.{◌≡◌, ◌⊎◌, inl, inr, ⊎_elim, ℕ, zero, suc, ◌+◌, ◌≤◌, ◌<◌, Bool, true, false, not, ◌&&◌, List, [], ◌∷◌, refl, ap, subst, ◌∙◌, arith}
 use Rattle.std.specs.Prelude.{◌||◌, ◌==◌, nat_lt}
 use Rattle.std.specs.List.{Contains}
-use Rattle.std.proofs.lemmas.Bool.{and_from, and_parts, cases_lt}
+use Rattle.std.proofs.lemmas.Bool.Decides.{nat_tests}
+use Rattle.std.proofs.lemmas.Bool.{and_parts}
 use Rattle.view_types.specs.declared.extents.Extent.{Extent}
-use Rattle.view_types.specs.Intervals.{AreMaximal, Ascend, end_of, is_free, is_within}
+use Rattle.view_types.specs.Intervals.{Ascend, end_of, is_free, is_within}
+use Rattle.view_types.proofs.SomeList.{some_list}
 use Rattle.label_codec.specs.ModuleLabels.{Labels}
 use Rattle.region_map.specs.declared.platform.Region.{Region}
 use Rattle.region_map.specs.declared.platform.Platform.{Platform}
-use Rattle.label_table.specs.Division.{AreFreeExtents, Free, Held, IsInOne, OfNamespace, Part, is_held_at, namespaces_over, part_size}
+use Rattle.label_table.specs.Division.{AreFreeExtents, Free, Held, IsInOne, OfNamespace, Part, is_common_free, is_held_at, namespaces_over, part_size}
 use Rattle.label_table.specs.Namespaces.{namespaces}
 use Rattle.label_table.specs.Statuses.{RegionReady, status}
 use Rattle.label_table.proofs.Clashes.{count_by-one, first_clash-none, none_empty}
 use Rattle.label_table.proofs.Listed.{namespaces-ascends}
 use Rattle.label_table.proofs.StatusLaws.{ready-parts}
-use Rattle.label_table.proofs.ListTests.{Contains-cases, Contains-here, Contains-none, Contains-there, le_from, le_true, lt_from, lt_true}
+use Rattle.label_table.proofs.ListTests.{Contains-cases, Contains-here, Contains-none, Contains-there, le_true, lt_from, lt_true}
 
 -- an offset in an extent
 abbrev pub IsOf : ℕ → Extent → Type 0
@@ -87,54 +89,8 @@ partition P L r es maximal ready o lt = by (namespaces_over L r o) (is_held_at P
 pub late : (from whole : ℕ) (es : List Extent) (o : ℕ) → Ascend from whole es → is_free es o ≡ true → from ≤ o
 late from whole es o a t = let at : IsInOne es o = in_one from whole es o a t in past from whole es o at.extent a at.listed (is_of o at.extent at.has)
 
--- A set of offsets has one list of maximal intervals.
-or_first : (p q : Bool) → p ≡ true → (p || q) ≡ true
-or_first p q e = rw e refl
-
-or_second : (p q : Bool) → q ≡ true → (p || q) ≡ true
-or_second true q e = refl
-or_second false q e = e
-
-in_head : (e : Extent) (es : List Extent) (o : ℕ) → e.start ≤ o → o < e.start + e.len → is_free (e ∷ es) o ≡ true
-in_head e es o low high = or_first (is_within e.start e.len o) (is_free es o) (and_from _ _ (le_from e.start o low) (lt_from o (e.start + e.len) high))
-
-starts : (from whole : ℕ) (e f : Extent) (es fs : List Extent) → Ascend from whole (e ∷ es) → Ascend from whole (f ∷ fs) → ((o : ℕ) → is_free (e ∷ es) o ≡ true → is_free (f ∷ fs) o ≡ true) → f.start ≤ e.start
-starts from whole e f es fs a b sub =
-    let some : 0 < e.len = a.1 in
-    let f_list : Ascend f.start whole (f ∷ fs) = (omega arith, b.1, b.2, b.3) in
-    late f.start whole (f ∷ fs) e.start f_list (sub e.start (in_head e es e.start (omega arith) (omega arith)))
-
-reaches : (from whole : ℕ) (e f : Extent) (es fs : List Extent) → Ascend from whole (e ∷ es) → Ascend from whole (f ∷ fs) → e.start ≡ f.start → ((o : ℕ) → is_free (e ∷ es) o ≡ true → is_free (f ∷ fs) o ≡ true) → e.len ≤ f.len
-reaches from whole e f es fs a b s sub = elim (cases_lt f.len e.len) [
-  | inr le ↦ le
-  | inl lt ↦ by (or_cases (is_within f.start f.len (f.start + f.len)) (is_free fs (f.start + f.len)) (sub (f.start + f.len) (in_head e es (f.start + f.len) (omega (arith, s)) (omega (arith, s, lt)))))
-]
-  where
-    by : (is_within f.start f.len (f.start + f.len) ≡ true) ⊎ (is_free fs (f.start + f.len) ≡ true) → e.len ≤ f.len
-    by (inl at) = let h : IsOf (f.start + f.len) f = is_of (f.start + f.len) f at in absurd (omega (arith, h.1))
-    by (inr there) = let l : end_of f + 1 ≤ f.start + f.len = late (end_of f + 1) whole fs (f.start + f.len) b.3 there in absurd (omega arith)
-
-tail : (from whole : ℕ) (e f : Extent) (es fs : List Extent) → Ascend from whole (e ∷ es) → e.start ≡ f.start → e.len ≡ f.len → ((o : ℕ) → is_free (e ∷ es) o ≡ true → is_free (f ∷ fs) o ≡ true) → (o : ℕ) → is_free es o ≡ true → is_free fs o ≡ true
-tail from whole e f es fs a s n sub o there = by (or_cases (is_within f.start f.len o) (is_free fs o) (sub o (or_second (is_within e.start e.len o) (is_free es o) there)))
-  where
-    by : (is_within f.start f.len o ≡ true) ⊎ (is_free fs o ≡ true) → is_free fs o ≡ true
-    by (inl at) = let l : end_of e + 1 ≤ o = late (end_of e + 1) whole es o a.3 there in let h : IsOf o f = is_of o f at in absurd (omega (arith, h.1))
-    by (inr rest) = rest
-
-one-list : (from whole : ℕ) (es fs : List Extent) → Ascend from whole es → Ascend from whole fs → ((o : ℕ) → is_free es o ≡ true → is_free fs o ≡ true) → ((o : ℕ) → is_free fs o ≡ true → is_free es o ≡ true) → es ≡ fs
-one-list from whole [] [] a b sub sup = refl
-one-list from whole [] (f ∷ fs) a b sub sup = let some : 0 < f.len = b.1 in absurd (let t : false ≡ true = sup f.start (in_head f fs f.start (omega arith) (omega arith)) in cc)
-one-list from whole (e ∷ es) [] a b sub sup = let some : 0 < e.len = a.1 in absurd (let t : false ≡ true = sub e.start (in_head e es e.start (omega arith) (omega arith)) in cc)
-one-list from whole (e ∷ es) (f ∷ fs) a b sub sup =
-    let le : f.start ≤ e.start = starts from whole e f es fs a b sub in
-    let ge : e.start ≤ f.start = starts from whole f e fs es b a sup in
-    let s : e.start ≡ f.start = omega arith in
-    let lle : e.len ≤ f.len = reaches from whole e f es fs a b s sub in
-    let lge : f.len ≤ e.len = reaches from whole f e fs es b a (sym s) sup in
-    let n : e.len ≡ f.len = omega arith in
-    let b_tail : Ascend (end_of e + 1) whole fs = subst (λ k. Ascend k whole fs) (omega arith) b.3 in
-    let rest : es ≡ fs = one-list (end_of e + 1) whole es fs a.3 b_tail (tail from whole e f es fs a s n sub) (tail from whole f e fs es b (sym s) (sym n) sup) in
-    λ i. record { start = s i; len = n i } ∷ rest i
-
-pub maximal-one : (whole : ℕ) (free : ℕ → Bool) (es fs : List Extent) → AreMaximal whole free es → AreMaximal whole free fs → es ≡ fs
-maximal-one whole free es fs a b = one-list 0 whole es fs a.ascend b.ascend (λ o t. b.free_in o ∙ sym (a.free_in o) ∙ t) (λ o t. a.free_in o ∙ sym (b.free_in o) ∙ t)
+-- there is a list of the free extents of a region
+pub some_extents : (P : Platform) (L : Labels) (r : Region) → (es : List Extent) × AreFreeExtents P L r es
+some_extents P L r = some_list (part_size r) (is_common_free P L r)
+    (λ o past. let none : nat_lt o (part_size r) ≡ false = grind (arith, nat_tests) in
+    λ i. none i && (namespaces_over L r o == 0 && not (is_held_at P L r o)))

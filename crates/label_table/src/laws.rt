@@ -97,7 +97,9 @@ pub fn division_laws()
         → AreFreeExtents platform labels region extents → status labels region ≡ RegionReady
         → (offset : ℕ) → offset < part_size region → Part platform labels region extents offset }
 
-    // There is one list of free extents.
+    // There is a list of free extents, and one.
+    ensures some_list { (platform : Platform) (labels : Labels) (region : Region)
+        → (extents : List Extent) × AreFreeExtents platform labels region extents }
     ensures one_list { (platform : Platform) (labels : Labels) (region : Region) (one other : List Extent)
         → AreFreeExtents platform labels region one → AreFreeExtents platform labels region other → one ≡ other }
 {}

@@ -18,7 +18,7 @@ use Rattle.label_table.specs.Statuses.{AreaNotReady, Clash, RegionReady, RegionS
 use Rattle.label_table.specs.Spaces.{Space}
 use Rattle.label_table.specs.Tables.{State, state}
 use Rattle.label_table.proofs.ListTests.{some_is}
-use Rattle.label_table.proofs.Partition.{maximal-one}
+use Rattle.view_types.proofs.Maximal.{one_list}
 use Rattle.table_steps.specs.declared.change.Change.{Change}
 use Rattle.table_steps.specs.declared.change.Change.TheVariants.{Create, Destroy, InitLabels, ReleaseHeld, Rename}
 use Rattle.table_steps.specs.declared.change.NewNamespace.{NewNamespace}
@@ -66,7 +66,7 @@ module _ (P : Platform) (L : Labels) where
   free-one (Some q) one other a b = by (status L q) a b
     where
       by : (s : RegionStatus) → AreFreeWhere s P L q one → AreFreeWhere s P L q other → one ≡ other
-      by RegionReady a b = maximal-one (part_size q) (is_common_free P L q) one other a b
+      by RegionReady a b = one_list (part_size q) (is_common_free P L q) one other a b
       by (Unusable rule) a b = a ∙ sym b
       by (AreaNotReady m k) a b = a ∙ sym b
       by (Clash first second) a b = a ∙ sym b

@@ -1,6 +1,6 @@
 //! Laws of intervals.
 
-ghost use Rattle.std.specs.Prelude.{◌≡◌, ℕ, ◌%◌, ◌≤◌, ◌<◌, Bool, List, Some, slice_get};
+ghost use Rattle.std.specs.Prelude.{◌≡◌, ℕ, ◌%◌, ◌≤◌, ◌<◌, Bool, false, List, Some, slice_get};
 ghost use Rattle.view_types.specs.declared.extents.Extent.{Extent};
 ghost use Rattle.view_types.specs.Intervals.{AllFree, AreMaximal, IsMaximal, NoneFits, greatest_aligned};
 
@@ -8,6 +8,12 @@ ghost use Rattle.view_types.specs.Intervals.{AllFree, AreMaximal, IsMaximal, Non
 pub fn one_list()
     ensures { (whole : ℕ) (free : ℕ → Bool) (es fs : List Extent) → AreMaximal whole free es
         → AreMaximal whole free fs → es ≡ fs }
+{}
+
+/// A set of offsets of a whole has such a list.
+pub fn some_list()
+    ensures { (whole : ℕ) (free : ℕ → Bool) → ((o : ℕ) → whole ≤ o → free o ≡ false)
+        → (es : List Extent) × AreMaximal whole free es }
 {}
 
 /// Each extent of the list is a maximal interval: its offsets are free, and those next to it are not.

@@ -19,7 +19,7 @@ mod word_fault;
 pub use extents::Extent;
 pub use guids::{PERSISTENT_MEMORY, persistent_memory};
 pub use key::Key;
-pub use laws::{each_maximal, greatest_fits, one_list};
+pub use laws::{each_maximal, greatest_fits, one_list, some_list};
 pub use list::List;
 pub use mode::Mode;
 pub use namespaces::{Held, Listed, Namespace};
