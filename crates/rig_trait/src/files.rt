@@ -1,7 +1,7 @@
 //! A rig over the files of a folder and the standard output.
 
 ghost use Rattle.std.specs.Prelude.{◌≡◌, ◌+◌, ◌≤◌, ◌++◌, [], ◌∷◌, ◌<◌, length, take, false, IfOk, string_bytes};
-ghost use Rattle.std.specs.Prelude.{string_len, string_capacity, vec_len, vec_capacity};
+ghost use Rattle.std.specs.Prelude.{string_len, string_capacity};
 ghost use Rattle.std.specs.FinMap.{empty};
 ghost use Rattle.rig_trait.specs.Counts.{no_counts};
 ghost use Rattle.rig_trait.specs.Files.{area_file, handle_digits, HasRoom};
@@ -85,7 +85,7 @@ impl FileRig {
         ensures { self.new ≡ self.old }
     {
         if self.open.len() < MOST_OPEN {
-            push_file(&mut self.open, file);
+            self.open.push_reserved(file);
         }
     }
 
@@ -176,16 +176,6 @@ fn push(path: &mut String, character: char)
     ensures capacity { string_capacity path.old ≤ string_capacity path.new }
 {
     if path.push(character).is_err() {
-        unreachable!()
-    }
-}
-
-/// Adds an open file, for which there is room.
-fn push_file(open: &mut Vec<AreaFile>, file: AreaFile)
-    requires { vec_len open.old < vec_capacity open.old }
-    ensures { vec_capacity open.old ≤ vec_capacity open.new }
-{
-    if open.push(file).is_err() {
         unreachable!()
     }
 }
