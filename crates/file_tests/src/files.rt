@@ -2,7 +2,9 @@
 
 use crate::calls::read_whole;
 use rig_trait::{Failed, FileRig, FileSource, Rig, Source, StdSource, write_two};
+use std::fs::{OpenOptions, Permissions};
 use std::io::{Cursor, ErrorKind, Read};
+use std::os::unix::fs::PermissionsExt;
 use std::test::Fail;
 use std::{fs, io};
 
@@ -98,6 +100,102 @@ fn file_writes(rt: HostRuntime) -> Result<(), Fail> {
     assert_eq!(rt; read_whole(&mut rig, 0x102, &mut whole), Ok(true));
     assert_eq!(rt; whole, [11, 12, 13, 4, 5, 6, 7, 18]);
     fs::remove_file(&rt, "dimm-00000102.lsa")?;
+    Ok(())
+}
+
+/// A file that is exchanged between two writes: both go to the file that was there first, and so do later reads.
+#[test]
+fn file_exchanged(rt: HostRuntime) -> Result<(), Fail> {
+    let alloc = rt.alloc();
+    fs::write(&rt, "dimm-00000103.lsa", [1, 2, 3, 4].as_slice())?;
+    let mut rig = FileRig::new(rt, alloc, ".")?;
+    assert_eq!(rt; rig.write(0x103, 0, &[11]), Ok(()));
+    fs::rename(&rt, "dimm-00000103.lsa", "first.lsa")?;
+    assert_eq!(rt; rig.size(0x103), Ok(Some(4)));
+    fs::write(&rt, "dimm-00000103.lsa", [5, 6, 7, 8, 9].as_slice())?;
+    assert_eq!(rt; rig.write(0x103, 3, &[14]), Ok(()));
+    let mut whole = [0; 4];
+    assert_eq!(rt; read_whole(&mut rig, 0x103, &mut whole), Ok(true));
+    assert_eq!(rt; whole, [11, 2, 3, 14]);
+    assert_eq!(rt;
+        fs::read(&rt, "first.lsa")?.as_slice(),
+        [11, 2, 3, 14].as_slice()
+    );
+    assert_eq!(rt;
+        fs::read(&rt, "dimm-00000103.lsa")?.as_slice(),
+        [5, 6, 7, 8, 9].as_slice()
+    );
+    // Another rig goes to the file that is there now.
+    let mut rig = FileRig::new(rt, alloc, ".")?;
+    assert_eq!(rt; rig.size(0x103), Ok(Some(5)));
+    fs::remove_file(&rt, "first.lsa")?;
+    fs::remove_file(&rt, "dimm-00000103.lsa")?;
+    Ok(())
+}
+
+/// An area that comes after it was asked for is found, and one that was found stays.
+#[test]
+fn file_comes(rt: HostRuntime) -> Result<(), Fail> {
+    let mut rig = FileRig::new(rt, rt.alloc(), ".")?;
+    assert_eq!(rt; rig.size(0x104), Ok(None));
+    fs::write(&rt, "dimm-00000104.lsa", [1, 2].as_slice())?;
+    assert_eq!(rt; rig.size(0x104), Ok(Some(2)));
+    fs::remove_file(&rt, "dimm-00000104.lsa")?;
+    let mut whole = [0; 2];
+    assert_eq!(rt; read_whole(&mut rig, 0x104, &mut whole), Ok(true));
+    assert_eq!(rt; whole, [1, 2]);
+    assert!(rt; has_failed(&rig, 0, 0));
+    Ok(())
+}
+
+/// A file that can be read and not written is read, and one that can't be opened has its size. A superuser may do both
+/// with either.
+#[test]
+fn file_permissions(rt: HostRuntime) -> Result<(), Fail> {
+    let path = "dimm-00000105.lsa";
+    fs::write(&rt, path, [1, 2].as_slice())?;
+    fs::set_permissions(&rt, path, Permissions::from_mode(0o444))?;
+    let is_super = OpenOptions::new().write(true).open(&rt, path).is_ok();
+    let mut rig = FileRig::new(rt, rt.alloc(), ".")?;
+    let mut whole = [0; 2];
+    assert_eq!(rt; read_whole(&mut rig, 0x105, &mut whole), Ok(true));
+    assert_eq!(rt; whole, [1, 2]);
+    assert_eq!(rt; rig.write(0x105, 0, &[11]).is_ok(), is_super);
+    fs::set_permissions(&rt, path, Permissions::from_mode(0o000))?;
+    let mut rig = FileRig::new(rt, rt.alloc(), ".")?;
+    assert_eq!(rt; rig.size(0x105), Ok(Some(2)));
+    assert_eq!(rt; rig.read(0x105, 0, &mut whole).is_ok(), is_super);
+    assert_eq!(rt; rig.write(0x105, 0, &[11]).is_ok(), is_super);
+    fs::remove_file(&rt, path)?;
+    Ok(())
+}
+
+/// More modules than files stay open: each is read and written.
+#[test]
+fn file_many(rt: HostRuntime) -> Result<(), Fail> {
+    let alloc = rt.alloc();
+    let mut rig = FileRig::new(rt, alloc, ".")?;
+    for turn in 0..2u8 {
+        for dimm in 0x200..0x242u32 {
+            let path = format!(in alloc; "dimm-{dimm:08x}.lsa")?;
+            if turn == 0 {
+                fs::write(&rt, path.as_str(), [0; 3].as_slice())?;
+            }
+            assert_eq!(rt;
+                rig.write(dimm, u64::from(turn), &[(dimm % 256) as u8]),
+                Ok(())
+            );
+        }
+    }
+    for dimm in 0x200..0x242u32 {
+        let mut whole = [0; 3];
+        assert_eq!(rt; read_whole(&mut rig, dimm, &mut whole), Ok(true));
+        let byte = (dimm % 256) as u8;
+        assert_eq!(rt; whole, [byte, byte, 0]);
+        let path = format!(in alloc; "dimm-{dimm:08x}.lsa")?;
+        fs::remove_file(&rt, path.as_str())?;
+    }
+    assert!(rt; has_failed(&rig, 0, 0));
     Ok(())
 }
 

@@ -1,15 +1,15 @@
 -- The labels by slot, as a map.
-use Rattle.std.proofs.Common.{◌≡◌, ◌≢◌, inl, inr, ℕ, zero, suc, ◌+◌, ◌<◌, Bool, true, false, ◌&&◌, cond, List, [], ◌∷◌, length, get_or, map, set, eqb, eq-eqb, eqb-true, Option, Some, None, refl, sym, ap, subst, ◌∙◌, arith}
+use Rattle.std.proofs.Common.{◌≡◌, ◌≢◌, inl, inr, ℕ, zero, suc, ◌+◌, ◌<◌, ◌≤◌, Bool, true, false, ◌&&◌, cond, List, [], ◌∷◌, length, get_or, eqb, eq-eqb, eqb-true, Option, Some, None, refl, sym, ap, subst, ◌∙◌, arith}
 use Rattle.std.specs.Prelude.{◌==◌, if◌then◌else◌, nat_lt, not, IsSome, IsTrue}
 use Rattle.std.specs.Ordering.{nat_cmp, eq_by_cmp}
 use Rattle.std.specs.Cmp.{nat_cmp_total}
 use Rattle.std.specs.FinMap as finite
 use Rattle.std.specs.FinMap.{get, get-from_entries}
-use Rattle.std.specs.List.{cons_option, range_with_len}
+use Rattle.std.specs.List.{cons_option}
 use Rattle.std.specs.Option.{option_map}
 use Rattle.std.proofs.lemmas.Bool.{and_parts, cases_lt, false≢true}
 use Rattle.std.proofs.lemmas.Bool.Decides.{nat_tests}
-use Rattle.std.proofs.lemmas.List.{get_or-set_other, get_or-set_same, get_or_default, get_or_past, same_lists}
+use Rattle.std.proofs.lemmas.List.{get_or_past}
 use Rattle.std.proofs.lemmas.List.FromFn.{get_or-map-range_with_len, length-map-range_with_len}
 use Rattle.index_block.specs.Bitmap.{is_free_in}
 use Rattle.label_codec.specs.declared.label.Label.{Label}
@@ -45,13 +45,9 @@ module _ (slot : ℕ) where
   pub get-live_of : (labels : List (Option Label)) → get (live_of labels) slot ≡ get_or labels slot None
   get-live_of labels = get-from_entries nat_cmp_total (entries_from 0 labels) slot ∙ find_from 0 slot labels (omega arith)
 
--- the labels of the map, in the order of slots
-pub labels-live_of : (labels : List (Option Label)) (n : ℕ) → length labels ≡ n → map (get (live_of labels)) (range_with_len 0 n) ≡ labels
-labels-live_of labels n long =
-    let count = length-map-range_with_len (get (live_of labels)) 0 n in
-    same_lists _ _ (omega (arith, count, long)) (λ k d lt.
-    let below : k < n = omega (arith, count, lt) in
-    get_or-map-range_with_len (get (live_of labels)) 0 n k k d below (omega arith) ∙ get-live_of k labels ∙ get_or_default labels k None d (omega (arith, below, long)))
+-- the labels of the slots below one
+abbrev pub below : (ℕ → Option Label) → ℕ → ℕ → Option Label
+below live n k = if nat_lt k n then live k else None
 
 module _ (current : Current) (area : List ℕ) (slot : ℕ) where
   in_place : get_or (live_labels current area) slot None ≡ live_label current area slot
@@ -64,13 +60,25 @@ module _ (current : Current) (area : List ℕ) (slot : ℕ) where
         ∙ sym (λ i. cond (past i && not (is_free_in (free_bits current area) slot)) (label_at current.geometry area slot) None)
   ]
 
+  -- a slot behind the last one has no live label
+  pub live_label-below : below (live_label current area) current.geometry.slots slot ≡ live_label current area slot
+  live_label-below = elim (cases_lt slot current.geometry.slots) [
+    | inl lt ↦
+        let inside : nat_lt slot current.geometry.slots ≡ true = grind (arith, nat_tests) in
+        λ i. cond (inside i) (live_label current area slot) None
+    | inr le ↦
+        let past : nat_lt slot current.geometry.slots ≡ false = grind (arith, nat_tests) in
+        (λ i. cond (past i) (live_label current area slot) None)
+        ∙ sym (λ i. cond (past i && not (is_free_in (free_bits current area) slot)) (label_at current.geometry area slot) None)
+  ]
+
   -- the map of the live labels has the live label of each slot
   pub get-live_labels : get (live_of (live_labels current area)) slot ≡ live_label current area slot
   get-live_labels = get-live_of slot (live_labels current area) ∙ in_place
 
   -- and a slot with one is in use
-  pub live-in_use : IsSome (get_or (live_labels current area) slot None) → IsTrue (is_in_use (free_bits current area) current.geometry.slots slot)
-  live-in_use some = by (is_in_use (free_bits current area) current.geometry.slots slot) refl (subst IsSome in_place some)
+  pub live_label-in_use : IsSome (live_label current area slot) → IsTrue (is_in_use (free_bits current area) current.geometry.slots slot)
+  live_label-in_use some = by (is_in_use (free_bits current area) current.geometry.slots slot) refl some
     where
       by : (b : Bool) → is_in_use (free_bits current area) current.geometry.slots slot ≡ b → IsSome (if b then label_at current.geometry area slot else None)
           → IsTrue (is_in_use (free_bits current area) current.geometry.slots slot)
@@ -97,10 +105,49 @@ cleared_in_use labels new gone free now n cleared used bits k some = by (gone k)
         let still = bits k (below parts.0) e (not_free (is_free_in free k) parts.1) in
         λ i. parts.0 i && not (still i)
 
--- a label set in a slot
-pub get-set : (labels : List (Option Label)) (slot : ℕ) (label : Label) → slot < length labels → (k : ℕ) → get (live_of (set labels slot (Some label))) k ≡ (if k == slot then Some label else get (live_of labels) k)
-get-set labels slot label within k = get-live_of k (set labels slot (Some label)) ∙ by (eqb k slot) refl
+module _ (live : ℕ → Option Label) (slot k : ℕ) where
+  one_more : k ≢ slot → nat_lt k slot ≡ nat_lt k (slot + 1)
+  one_more other = elim (cases_lt k slot) [
+    | inl lt ↦
+        let now : nat_lt k slot ≡ true = grind (arith, nat_tests) in
+        let next : nat_lt k (slot + 1) ≡ true = grind (arith, nat_tests) in
+        now ∙ sym next
+    | inr le ↦
+        let past : slot + 1 ≤ k = omega (arith, le, other) in
+        let now : nat_lt k slot ≡ false = grind (arith, nat_tests) in
+        let next : nat_lt k (slot + 1) ≡ false = grind (arith, nat_tests) in
+        now ∙ sym next
+  ]
+
+  -- with that of this slot
+  pub below-more : (o : Option Label) → live slot ≡ o → (if k == slot then o else below live slot k) ≡ below live (slot + 1) k
+  below-more o is = by (eqb k slot) refl
+    where
+      by : (same : Bool) → eqb k slot ≡ same → cond same o (below live slot k) ≡ below live (slot + 1) k
+      by true e =
+          let same : k ≡ slot = eqb-true k slot e in
+          let lt : nat_lt k (slot + 1) ≡ true = grind (arith, nat_tests) in
+          sym is ∙ ap live (sym same) ∙ sym (λ i. cond (lt i) (live k) None)
+      by false e = λ i. cond (one_more (λ same. absurd (false≢true (sym e ∙ eq-eqb k slot same))) i) (live k) None
+
+  -- a slot without a label adds none
+  pub below-none : live slot ≡ None → below live slot k ≡ below live (slot + 1) k
+  below-none none = by (eqb k slot) refl ∙ below-more None none
+    where
+      by : (same : Bool) → eqb k slot ≡ same → below live slot k ≡ cond same None (below live slot k)
+      by true e =
+          let same : k ≡ slot = eqb-true k slot e in
+          let past : nat_lt k slot ≡ false = grind (arith, nat_tests) in
+          λ i. cond (past i) (live k) None
+      by false e = refl
+
+-- A slot with a label is in use still where one more in use gets a label.
+pub set_in_use : (labels new : List (Option Label)) (slot : ℕ) (label : Label) (free : List ℕ) (n : ℕ)
+    → ((k : ℕ) → get_or new k None ≡ (if k == slot then Some label else get_or labels k None))
+    → ((k : ℕ) → IsSome (get_or labels k None) → IsTrue (is_in_use free n k)) → IsTrue (is_in_use free n slot)
+    → (k : ℕ) → IsSome (get_or new k None) → IsTrue (is_in_use free n k)
+set_in_use labels new slot label free n set_there used here_used k some = by (eqb k slot) refl (subst IsSome (set_there k) some)
   where
-    by : (same : Bool) → eqb k slot ≡ same → get_or (set labels slot (Some label)) k None ≡ cond same (Some label) (get (live_of labels) k)
-    by true e = ap (λ (j : ℕ). get_or (set labels slot (Some label)) j None) (eqb-true k slot e) ∙ get_or-set_same labels slot (Some label) None within
-    by false e = get_or-set_other labels slot k (Some label) None (λ same. absurd (false≢true (sym e ∙ eq-eqb k slot same))) ∙ sym (get-live_of k labels)
+    by : (same : Bool) → eqb k slot ≡ same → IsSome (cond same (Some label) (get_or labels k None)) → IsTrue (is_in_use free n k)
+    by true e s = subst (λ (j : ℕ). IsTrue (is_in_use free n j)) (sym (eqb-true k slot e)) here_used
+    by false e s = used k s

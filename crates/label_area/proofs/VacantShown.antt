@@ -1,9 +1,7 @@
 -- An area without labels is the one that is stored once it is initialised.
-use Rattle.std.proofs.Common.{◌≡◌, inl, inr, ℕ, ◌<◌, true, List, length, get_or, replicate, Option, Some, None, refl, sym, ap, subst, ◌∙◌, arith}
+use Rattle.std.proofs.Common.{◌≡◌, ℕ, ◌<◌, true, List, length, get_or, Option, Some, None, refl, sym, ap, subst, ◌∙◌}
 use Rattle.std.specs.FinMap.{get}
 use Rattle.std.specs.Option.{option_map}
-use Rattle.std.proofs.lemmas.Bool.{cases_lt}
-use Rattle.std.proofs.lemmas.List.{get_or-replicate, get_or_past, length-replicate}
 use Rattle.byte_ranges.specs.Ranges.{patched}
 use Rattle.rig_trait.specs.Areas.{Areas}
 use Rattle.index_block.specs.declared.geometry.Geometry.{Geometry}
@@ -26,13 +24,6 @@ use Rattle.label_area.proofs.LabelsBySlot.{get-live_of}
 use Rattle.label_area.proofs.Shown.{block_is}
 use Rattle.label_area.proofs.Sizes.{size_is}
 use Rattle.label_area.proofs.Vacant.{current_with}
-
--- no slot has a label
-pub none-live : (n slot : ℕ) → get_or {A = Option Label} (replicate n None) slot None ≡ None
-none-live n slot = elim (cases_lt slot n) [
-  | inl lt ↦ get_or-replicate n slot None None lt
-  | inr le ↦ get_or_past (replicate n None) slot None (let len : length {A = Option Label} (replicate n None) ≡ n = length-replicate {A = Option Label} n None in omega (arith, len, le))
-]
 
 some-same : {A : Type 0} (a b : A) → Some a ≡ Some b → a ≡ b
 some-same a b e = cc

@@ -1,5 +1,5 @@
 -- What an area that was loaded keeps, and what is seen of it.
-use Rattle.std.specs.Prelude.{◌≡◌, ℕ, ◌+◌, List, [], ◌∷◌, Option, None, IsSome, IsTrue, length, slice_index_or}
+use Rattle.std.specs.Prelude.{◌≡◌, ℕ, ◌+◌, ◌≤◌, List, [], ◌∷◌, Option, None, IsSome, IsTrue, length, slice_index_or, vec_capacity}
 use Rattle.std.specs.FinMap.{FinMap, from_entries}
 use Rattle.std.specs.List.{cons_option}
 use Rattle.std.specs.Option.{option_map}
@@ -18,7 +18,7 @@ abbrev pub entries_from : ℕ → List (Option Label) → List (ℕ × Label)
 entries_from slot [] = []
 entries_from slot (label ∷ labels) = cons_option (option_map (λ l. (slot, l)) label) (entries_from (slot + 1) labels)
 
--- labels in the order of their slots, as a map
+-- labels in the order of their slots, up to some slot, as a map
 abbrev pub live_of : List (Option Label) → FinMap nat_cmp Label
 live_of labels = from_entries (entries_from 0 labels)
 
@@ -49,7 +49,8 @@ pub record IsKept (area : Inside) : Type 0 where
   pub label : area.geometry.label ≡ 256
   pub seq : IsSeq area.seq
   pub bits : length area.free.items ≡ bitmap_len area.geometry.slots
-  pub long : length area.labels.items ≡ area.geometry.slots
+  -- the slots behind the end of the list have no label, and there is room for the labels of all
+  pub room : area.geometry.slots ≤ vec_capacity area.labels
   -- a slot with a label is in use
   pub in_use : (slot : ℕ) → IsSome (slice_index_or area.labels.items slot None)
       → IsTrue (is_in_use area.free.items area.geometry.slots slot)

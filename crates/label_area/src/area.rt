@@ -1,10 +1,11 @@
 //! An area that was loaded.
 
-ghost use Rattle.std.specs.Prelude.{◌≡◌, ◌<◌, length, IfOk};
+ghost use Rattle.std.specs.Prelude.{◌≡◌, ◌<◌, ◌≤◌, ◌==◌, ℕ, None, Some, length, slice_index_or, vec_capacity, IfOk};
+ghost use Rattle.std.specs.Prelude.{if◌then◌else◌};
 ghost use Rattle.std.specs.Option.{option_copied};
 ghost use Rattle.index_block.specs.Current.{IsSeq};
 ghost use Rattle.index_block.specs.Geometry.{FitsIn, IsGeometry, bitmap_len};
-ghost use Rattle.label_area.specs.Slots.{free_bits, label_at, live_label, live_labels};
+ghost use Rattle.label_area.specs.Slots.{free_bits, label_at, live_label};
 
 use crate::blocks::{Current, place_window};
 use index_block::{Geometry, Place, count_free, is_free};
@@ -21,7 +22,7 @@ pub struct Area {
     pub(crate) seq: u32,
     /// The bitmap of the current index block.
     pub(crate) free: Vec<u8>,
-    /// The live label of each slot.
+    /// The live label of each slot, up to the last one that ever had one. There is room for those of all slots.
     pub(crate) labels: Vec<Option<Label>>,
 }
 
@@ -43,7 +44,7 @@ impl Area {
     ghost use Rattle.std.specs.FinMap.{get};
     ghost use Rattle.index_block.specs.Bitmap.{free_count};
     ghost use Rattle.label_area.specs.Kept.{loaded_from};
-    ghost use Rattle.label_area.specs.LoadedAreas.{IsSound, is_used, labels_by_slot, size_of};
+    ghost use Rattle.label_area.specs.LoadedAreas.{IsSound, is_used, size_of};
 
     /// What is kept of an area with these bytes and this current block.
     pub(crate) fn of(
@@ -135,13 +136,6 @@ impl Area {
     {
         self.labels.get(slot as usize)?.as_ref()
     }
-
-    /// The live label of each slot, in the order of slots.
-    pub fn labels(&self) -> &[Option<Label>]
-        ensures { result.now ≡ labels_by_slot self.now }
-    {
-        &self.labels
-    }
 }
 
 /// The bitmap of the current block of an area.
@@ -155,7 +149,8 @@ fn free_bits(alloc: Global, area: &[u8], current: &Current) -> Result<Vec<u8>, A
     Vec::from_slice(alloc, current.geometry.bitmap(window))
 }
 
-/// The live labels of all slots, in their order. `free` is the bitmap of the current block.
+/// The live labels of all slots, each in its place, with the room for a label in each. `free` is the bitmap of the
+/// current block. Room that no label needs isn't touched.
 fn live_labels(
     alloc: Global,
     area: &[u8],
@@ -166,14 +161,32 @@ fn live_labels(
     requires fits { FitsIn (length area.now) current.now.geometry }
     requires free { free.now ≡ free_bits current.now area.now }
     requires bits { length free.now ≡ bitmap_len current.now.geometry.slots }
-    ensures { IfOk result (λ labels. labels.items ≡ live_labels current.now area.now) }
+    ensures labels { IfOk result (λ labels. (k : ℕ)
+        → slice_index_or labels.items k None ≡ live_label current.now area.now k) }
+    ensures room { IfOk result (λ labels. current.now.geometry.slots ≤ vec_capacity labels) }
 {
     let slots = current.geometry.slots;
     let mut labels = Vec::with_capacity(alloc, slots as usize)?;
     for slot in 0..slots {
-        labels.push(live_label(area, slot, current, free))?;
+        if let Some(label) = live_label(area, slot, current, free) {
+            set_label(&mut labels, slot, label);
+        }
     }
     Ok(labels)
+}
+
+/// Sets the label of a slot, for which there is room. The slots behind the end of the list have none.
+pub(crate) fn set_label(labels: &mut Vec<Option<Label>>, slot: u32, label: Label)
+    requires { slot < vec_capacity labels.old }
+    ensures labels { (k : ℕ) → slice_index_or labels.new.items k None
+        ≡ (if k == slot then Some label else slice_index_or labels.old.items k None) }
+    ensures room { vec_capacity labels.new ≡ vec_capacity labels.old }
+{
+    let place = slot as usize;
+    for _at in labels.len()..place + 1 {
+        labels.push_reserved(None);
+    }
+    labels[place] = Some(label);
 }
 
 /// The label of a slot, where the current block marks the slot in use.

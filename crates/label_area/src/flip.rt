@@ -16,7 +16,7 @@ ghost use Rattle.label_area.specs.Loads.{IsShown};
 ghost use Rattle.label_area.specs.LoadedAreas.{IsSound, is_used};
 ghost use Rattle.label_area.specs.Slots.{bitmap_bytes};
 
-use crate::area::Area;
+use crate::area::{Area, set_label};
 use crate::blocks::BITMAP_BYTES;
 use crate::flip_writes::Next;
 use index_block::{first_free, set_free, set_used};
@@ -150,7 +150,7 @@ impl Area {
         ensures rest { self.new ≡ record self.old { live = self.new.live } }
         ensures live { (k : ℕ) → get self.new.live k ≡ (if k == slot then Some label else get self.old.live k) }
     {
-        self.labels[slot as usize] = Some(label);
+        set_label(&mut self.labels, slot, label);
     }
 
     /// Keeps what a flip that freed slots made of the area.
@@ -202,15 +202,26 @@ fn replaced(replaces: &Option<u32>) -> &[u32]
     }
 }
 
-/// Takes the labels of some slots away.
+/// Takes the labels of some slots away. The slots behind the end of the list have none.
 fn clear(labels: &mut [Option<Label>], freed: &[u32])
-    requires { All (λ slot. slot < length labels.old) freed.now }
     ensures labels { (k : ℕ)
         → slice_index_or labels.new k None
         ≡ (if is_among freed.now k then None else slice_index_or labels.old k None) }
     ensures len { length labels.new ≡ length labels.old }
 {
     for slot in freed {
-        labels[*slot as usize] = None;
+        clear_slot(labels, *slot);
+    }
+}
+
+/// Takes the label of a slot away, where the list reaches so far.
+fn clear_slot(labels: &mut [Option<Label>], slot: u32)
+    ensures labels { (k : ℕ)
+        → slice_index_or labels.new k None ≡ (if k == slot then None else slice_index_or labels.old k None) }
+    ensures len { length labels.new ≡ length labels.old }
+{
+    let place = slot as usize;
+    if place < labels.len() {
+        labels[place] = None;
     }
 }

@@ -20,7 +20,7 @@ impl Area {
             return Ok(None);
         };
         let free = vec![in alloc; 0xff; geometry.slots.div_ceil(8) as usize]?;
-        let labels = vec![in alloc; None; geometry.slots as usize]?;
+        let labels = Vec::with_capacity(alloc, geometry.slots as usize)?;
         Ok(Some(Area {
             dimm,
             geometry,

@@ -15,8 +15,8 @@ pub fn listing(alloc: Global, area: &Area) -> Result<Vec<u8>, AllocError>
 {
     let mut text = Vec::new(alloc);
     let mut count = 0;
-    for slot in area.labels() {
-        if let Some(label) = slot {
+    for slot in 0..area.slots() {
+        if let Some(label) = area.label(slot) {
             text.extend_from_slice(label_line(label).as_bytes())?;
             count += 1;
         }

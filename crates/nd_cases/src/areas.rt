@@ -166,8 +166,8 @@ fn shows(alloc: Global, area: &Area) -> Result<String, Fault> {
         used.push(if area.is_used(slot) { '1' } else { '0' })?;
     }
     let mut live = String::new(alloc);
-    for label in area.labels() {
-        live.push(if label.is_some() { '1' } else { '0' })?;
+    for slot in 0..slots {
+        live.push(if area.label(slot).is_some() { '1' } else { '0' })?;
     }
     Ok(format!(in alloc;
         "load {size:x} {slots:x} {block:x} {seq:x} {place} {free:x} {used} {live}"

@@ -8,6 +8,7 @@ pub mod Memory
 pub mod Undone
 pub mod Crashed
 pub mod InKept
+pub mod InFiles
 pub mod Shows
 pub mod InMemory
 pub mod MemorySource

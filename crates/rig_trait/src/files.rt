@@ -6,34 +6,40 @@ ghost use Rattle.std.specs.FinMap.{empty};
 ghost use Rattle.rig_trait.specs.Counts.{no_counts};
 ghost use Rattle.rig_trait.specs.Files.{area_file, handle_digits, HasRoom};
 
+use crate::area_file::{AreaFile, size_at};
 use crate::counts::Counts;
 use crate::{Failed, Rig, Shown};
 use std::alloc::{AllocError, Global};
-use std::fs::{File, OpenOptions};
+use std::io;
 use std::io::{ErrorKind, Write};
 use std::marker::Model;
-use std::os::unix::fs::FileExt;
-use std::{fs, io};
+
+/// The most files of areas that are kept open: no platform has more modules.
+const MOST_OPEN: usize = 64;
 
 /// The areas as files of a folder, and the standard output: the area of the module with handle 0xHHHHHHHH is the
 /// file `dimm-HHHHHHHH.lsa`, with eight lower case digits. What files hold is outside of what is proved, so it
 /// tells no areas, nothing said and no crash records.
 ///
 /// A missing file, or a missing folder, is no area. A path that is there and is no regular file fails, as does a
-/// range outside of the file. The memory of its path is taken when it is made.
+/// range outside of the file. The first call for a module that finds its file opens it. It stays open, so that later
+/// calls go to this file with the size that it had, whatever becomes of its path. This is so for the files of 64 modules.
+/// That of a further one is opened for each call. The memory for the open files and for a path is taken by `new`.
 #[derive(Drop)]
 pub struct FileRig {
     rt: HostRuntime,
-    /// The path of the area's file that was last asked for. It has the memory of the path of any of them.
+    /// The path of the area's file that was last opened, or was to be. It has the memory of the path of any of them.
     path: String,
     folder_len: usize,
+    /// The files that stay open, each of another module.
+    open: Vec<AreaFile>,
     counts: Counts,
 }
 
 impl Model for FileRig {
     ghost use Rattle.rig_trait.specs.declared.counts.Counts.{Counts};
     ghost use Rattle.rig_trait.specs.Counts.{counts_code};
-    ghost use Rattle.rig_trait.specs.Files.{HasRoom};
+    ghost use Rattle.rig_trait.specs.InFiles.{IsRoomy};
 
     ghost Value = { Counts };
 
@@ -41,7 +47,7 @@ impl Model for FileRig {
 
     ghost view = { λ rig. rig.counts };
 
-    ghost invariant = { λ rig. HasRoom rig.path rig.folder_len };
+    ghost invariant = { IsRoomy };
 }
 
 impl FileRig {
@@ -56,62 +62,65 @@ impl FileRig {
             rt,
             path,
             folder_len,
+            open: Vec::with_capacity(alloc, MOST_OPEN)?,
             counts: Counts::new(),
         })
     }
 
-    /// The size of the file of an area, whose path it sets.
-    fn file_size(&mut self, dimm: u32) -> io::Result<u64>
+    /// The file of an area: the one that is open, which is taken from those that are, or one that is opened now.
+    fn take_file(&mut self, dimm: u32) -> io::Result<AreaFile>
         ensures { self.new ≡ self.old }
     {
-        set_area(&mut self.path, self.folder_len, dimm);
-        // Opening a pipe could wait for ever, so this looks at the path first.
-        let metadata = fs::metadata(&self.rt, self.path.as_str())?;
-        if !metadata.is_file() {
-            return Err(ErrorKind::InvalidInput.into());
+        match self.open.iter().position(|file| file.dimm() == dimm) {
+            Some(at) => Ok(self.open.swap_remove(at)),
+            None => {
+                set_area(&mut self.path, self.folder_len, dimm);
+                AreaFile::open(&self.rt, self.path.as_str(), dimm)
+            }
         }
-        Ok(metadata.len())
+    }
+
+    /// Leaves a file that was taken open, or closes it where as many are open as can be.
+    fn keep_file(&mut self, file: AreaFile)
+        ensures { self.new ≡ self.old }
+    {
+        if self.open.len() < MOST_OPEN {
+            self.open.push_reserved(file);
+        }
     }
 
     fn try_size(&mut self, dimm: u32) -> io::Result<Option<u64>>
         ensures { self.new ≡ self.old }
     {
-        match self.file_size(dimm) {
-            Ok(size) => Ok(Some(size)),
+        match self.take_file(dimm) {
+            Ok(file) => {
+                let size = file.size();
+                self.keep_file(file);
+                Ok(Some(size))
+            }
             Err(error) if error.kind() == ErrorKind::NotFound => Ok(None),
-            Err(error) => Err(error),
+            // A file that can't be opened has a size too.
+            Err(_) => Ok(Some(size_at(&self.rt, self.path.as_str())?)),
         }
-    }
-
-    /// Fails where the file of an area, whose path it sets, doesn't have so many bytes from an offset on.
-    fn check_range(&mut self, dimm: u32, at: u64, len: usize) -> io::Result<()>
-        ensures { self.new ≡ self.old }
-    {
-        let size = self.file_size(dimm)?;
-        if at > size || size - at < len as u64 {
-            return Err(ErrorKind::UnexpectedEof.into());
-        }
-        Ok(())
     }
 
     fn try_read(&mut self, dimm: u32, at: u64, into: &mut [u8]) -> io::Result<()>
         ensures { self.new ≡ self.old }
     {
-        self.check_range(dimm, at, into.len())?;
-        let file = File::open(&self.rt, self.path.as_str())?;
-        file.read_exact_at(into, at)
+        let file = self.take_file(dimm)?;
+        let read = file.read(at, into);
+        self.keep_file(file);
+        read
     }
 
     /// Writes into a file that is there, which it never makes, cuts or lengthens.
     fn try_write(&mut self, dimm: u32, at: u64, bytes: &[u8]) -> io::Result<()>
         ensures { self.new ≡ self.old }
     {
-        self.check_range(dimm, at, bytes.len())?;
-        let file = OpenOptions::new()
-            .write(true)
-            .open(&self.rt, self.path.as_str())?;
-        file.write_all_at(bytes, at)?;
-        file.sync_data()
+        let file = self.take_file(dimm)?;
+        let written = file.write(at, bytes);
+        self.keep_file(file);
+        written
     }
 
     fn try_say(&self, bytes: &[u8]) -> io::Result<()> {

@@ -3,6 +3,7 @@
 //! reader and one over a file.
 #![tactic(auto)]
 
+mod area_file;
 mod counts;
 mod file_source;
 mod files;

@@ -1,15 +1,38 @@
-use Rattle.std.proofs.Common.{◌++◌, [], ◌∷◌, List, Option, map, sym, ap, ◌∙◌, arith}
-use Rattle.std.specs.List.{range_with_len}
-use Rattle.std.proofs.lemmas.List.FromFn.{map-range_with_len_more}
+use Rattle.std.proofs.Common.{◌≡◌, ◌≤◌, ℕ, Option, Some, None, get_or, cond, sym, ap, subst, ◌∙◌, arith}
+use Rattle.std.specs.Prelude.{◌==◌, vec_capacity}
 use Rattle.label_codec.specs.declared.label.Label.{Label}
 use Rattle.label_area.specs.Slots.{live_label}
+use Rattle.label_area.proofs.LabelsBySlot.{below, below-more, below-none, live_label-below}
 use Rattle.label_area.proofs.area.live_labels.Goals as goal
+use Rattle.label_area.proofs.area.live_labels.Goals.{in-Some, in_default}
 
 pub loop-slot-preserved : goal.loop-slot-preserved
 loop-slot-preserved c =
-    let label = live_label c.args.current.now c.args.area.now in
+    let live = live_label c.args.current.now c.args.area.now in
     let slot = c.loop-slot.slot in
-    c.in_ok-push.ensures.items
-    ∙ ap (λ (ls : List (Option Label)). ls ++ c.live_label.result ∷ []) c.loop-slot.invariant
-    ∙ ap (λ (o : Option Label). map label (range_with_len 0 slot) ++ o ∷ []) c.live_label.ensures
-    ∙ sym (map-range_with_len_more label 0 slot slot (omega arith))
+    elim c.match-live_label.branch [
+      | in-Some w ↦
+          record {
+            labels_are = λ k.
+                ap (λ v. get_or v.items k None) w.labels-is
+                ∙ w.set_label.ensures.labels k
+                ∙ ap (λ (o : Option Label). cond (k == slot) (Some w.in-Some.label) o) (c.loop-slot.invariant.labels_are k)
+                ∙ below-more live slot k (Some w.in-Some.label) (sym c.live_label.ensures ∙ w.in-Some.is);
+            room = subst (λ v. c.args.current.now.geometry.slots ≤ vec_capacity v) (sym w.labels-is) (omega (arith, w.set_label.ensures.room, c.loop-slot.invariant.room));
+          }
+      | in_default w ↦
+          record {
+            labels_are = λ k.
+                ap (λ v. get_or v.items k None) w.labels-is
+                ∙ c.loop-slot.invariant.labels_are k
+                ∙ below-none live slot k (sym c.live_label.ensures ∙ w.in_default.is);
+            room = subst (λ v. c.args.current.now.geometry.slots ≤ vec_capacity v) (sym w.labels-is) c.loop-slot.invariant.room;
+          }
+    ]
+
+pub returns-clause-labels : goal.returns-clause-labels
+returns-clause-labels c = λ k.
+    let current = c.args.current.now in
+    let area = c.args.area.now in
+    let end : c.loop-slot.slot ≡ current.geometry.slots = omega (arith, c.loop-slot-test.false, c.loop-slot.auto.slot-end) in
+    c.loop-slot.invariant.labels_are k ∙ ap (λ (n : ℕ). below (live_label current area) n k) end ∙ live_label-below current area k

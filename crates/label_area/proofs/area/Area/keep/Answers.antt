@@ -17,8 +17,6 @@ invariant_of-self c =
     let labels = c.self.inside.labels in
     let n = c.self.inside.geometry.slots in
     let len_is : length c.clear.new.labels ≡ labels.len = c.clear.ensures.len ∙ c.deref_mut.ensures.len in
-    let long : length labels.items ≡ n = c.self.invariant.long in
-    let same : labels.len ≡ length labels.items = labels.ok.0 in
     let slots_is : n ≡ c.args.self.now.geometry.slots = ap (λ (a : LoadedArea). a.geometry.slots) c.self.view_is in
     let now_is : take labels.len (c.clear.new.labels ++ drop (length c.clear.new.labels) labels.items) ≡ c.clear.new.labels = with_items_is labels c.clear.new.labels len_is in
     let cleared = λ (k : ℕ). c.clear.ensures.labels k ∙ ap (λ (ls : List (Option Label)). cond (is_among c.args.freed.now k) None (get_or ls k None)) c.deref_mut.ensures.value in
@@ -32,7 +30,7 @@ invariant_of-self c =
       label = c.self.invariant.label;
       seq = c.requires.next.numbered;
       bits = free_long;
-      long = ap (λ (ls : List (Option Label)). length ls) now_is ∙ omega arith;
+      room = c.self.invariant.room;
       in_use = λ k some. cleared_in_use labels.items c.clear.new.labels (is_among c.args.freed.now) c.self.inside.free.items _ n cleared c.self.invariant.in_use
           (λ j below kept was.
           copied j below
