@@ -21,3 +21,5 @@ pub mod ChangeEnds
 pub mod ReleaseEnds
 pub mod ChangePasses
 pub mod OneTranslation
+pub mod Initialising
+pub mod EachChange

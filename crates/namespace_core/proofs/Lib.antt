@@ -2,6 +2,5 @@ pub mod Found
 pub mod Telling
 pub mod Standing
 pub mod Changing
-pub mod Initialising
 pub mod Success
 pub mod Viewing
