@@ -23,3 +23,5 @@ pub mod ChangePasses
 pub mod OneTranslation
 pub mod Initialising
 pub mod EachChange
+pub mod OneHeld
+pub mod OneShown

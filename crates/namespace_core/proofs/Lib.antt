@@ -4,3 +4,4 @@ pub mod Standing
 pub mod Changing
 pub mod Success
 pub mod Viewing
+pub mod OneReply

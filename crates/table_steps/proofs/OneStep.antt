@@ -116,19 +116,19 @@ module _ (P : Platform) (L : Labels) where
 
   done-or : (accepted : Reply → State → Type 0) → ((reply : Reply) (after : State) → accepted reply after → is_change reply ≡ true)
       → (o : Option Refusal) (reply : Reply) (after : State) → IsDoneBy o (state P L) accepted reply after → IsDoneOrRefused reply after
-  done-or accepted changes (Some refusal) reply after is = inr (refusal, is)
+  done-or accepted changes (Some refusal) reply after is = inr (refusal, is.0, is.1)
   done-or accepted changes None reply after is = inl (changes reply after is)
 
   pub does-or : (slots : ℕ → ℕ) (change : Change) (own : List ℕ) (reply : Reply) (after : State) → Does P slots L change own reply after → IsDoneOrRefused reply after
-  does-or slots (InitLabels dimm) own = done-or (IsInitialised P L dimm (slots dimm)) (λ r now is. ap is_change is.0) (first_of (initialise_refusals P L dimm))
+  does-or slots (InitLabels dimm) own reply after does = done-or (IsInitialised P L dimm (slots dimm)) (λ r now is. ap is_change is.0) (first_of (initialise_refusals P L dimm)) reply after does
   does-or slots (Create region size name abstraction sector uuid) own reply after does =
       done-or (IsCreated P L a) (λ r now is. ap is_change is.reply_is) (first_of (create_refusals P L does.free a)) reply after does.is_done
     where
       a : NewNamespace
       a = asked_by region size name abstraction sector uuid own
-  does-or slots (Destroy region key) own = done-or (IsDestroyed P L region key) (λ r now is. ap is_change is.reply_is) (first_of (destroy_refusals P L region key))
-  does-or slots (Rename region key name) own = done-or (IsRenamed P L region key name) (λ r now is. ap is_change is.reply_is) (first_of (rename_refusals P L region key name))
-  does-or slots (ReleaseHeld dimm uuid) own = done-or (IsReleased P L dimm uuid) (λ r now is. ap is_change is.reply_is) (first_of (release_refusals P L dimm uuid))
+  does-or slots (Destroy region key) own reply after does = done-or (IsDestroyed P L region key) (λ r now is. ap is_change is.reply_is) (first_of (destroy_refusals P L region key)) reply after does
+  does-or slots (Rename region key name) own reply after does = done-or (IsRenamed P L region key name) (λ r now is. ap is_change is.reply_is) (first_of (rename_refusals P L region key name)) reply after does
+  does-or slots (ReleaseHeld dimm uuid) own reply after does = done-or (IsReleased P L dimm uuid) (λ r now is. ap is_change is.reply_is) (first_of (release_refusals P L dimm uuid)) reply after does
 
   -- what is refused changes nothing
   refused-same : (refusal : Refusal) (after : State) → IsDoneOrRefused (Refused refusal) after → after ≡ state P L
