@@ -27,14 +27,10 @@ use Rattle.region_map.specs.declared.platform.Platform.{Platform}
 use Rattle.region_labels.specs.Modules.{dimm_of, size_in}
 use Rattle.namespace_core.specs.Commands.{Does, DoesAnyhow, HasAreas, IsBeforeOrAfter, LeavesArea, SaysIfKnown, has_module, is_init, may_change, written_by}
 use Rattle.namespace_core.specs.Faults.{HasRunCause, IsRunAmong, IsRunAt, spent_after}
-use Rattle.namespace_core.proofs.Found.{does-anyhow, says-fact}
+use Rattle.namespace_core.proofs.Found.{does-anyhow, says-fact, unknown-refused}
 use Rattle.namespace_core.specs.Sessions.{IsCurrent, StoredSession, labels_of, slots_of, state_of}
 use Rattle.namespace_core.specs.declared.faults.RunFault.{RunFault}
 use Rattle.namespace_core.specs.declared.faults.RunFault.TheVariants as faults
-use Rattle.table_steps.specs.Changes.{IsDoneBy}
-use Rattle.table_steps.specs.Initialise.{IsInitialised, already_ready, cannot_initialise}
-use Rattle.table_steps.specs.Refusals.{first_of, refused_if}
-use Rattle.view_types.specs.declared.refusal.Refusal.TheVariants.{UnknownDimm}
 use Rattle.view_types.specs.declared.reply.Reply.{Reply}
 use Rattle.view_types.specs.Replies.{is_change}
 use Rattle.command_runs.specs.Areas.{IsWritten, KeepsAreas, LeavesAreas, MayInitialise, OnlyTells, changed_by_part, initialised_by_part}
@@ -97,16 +93,7 @@ cause-answer m old new (Err faults.Memory) is = is
 cause-answer m old new (Err faults.Spent) is = is
 
 -- the platform has no module with this handle, which is not initialised
-module _ (platform : Platform) (slots : ℕ → ℕ) (labels : Labels) (own : List ℕ) (dimm : ℕ) (absent : has_module platform dimm ≡ false) where
-  unknown-refused : (reply : Reply) (after : State) → Does platform slots labels (Change (InitLabels dimm)) own reply after → is_change reply ≡ false
-  unknown-refused reply after does = by (has_module platform dimm) absent does
-    where
-      by : (b : Bool) → b ≡ false
-          → IsDoneBy (first_of (refused_if (not b) (UnknownDimm dimm) ∷ cannot_initialise dimm (labels dimm).kind ∷ already_ready dimm (labels dimm).kind ∷ []))
-          (state platform labels) (IsInitialised platform labels dimm (slots dimm)) reply after → is_change reply ≡ false
-      by true is done = absurd cc
-      by false is done = ap is_change done.0
-
+module _ (platform : Platform) (dimm : ℕ) (absent : has_module platform dimm ≡ false) where
   known-fault : (failed : ℕ) → is_among (dimm ∷ []) failed ≡ true → has_module platform failed ≡ true → ⊥
   known-fault failed is known = by (eqb failed dimm) refl
     where
@@ -122,7 +109,7 @@ module _ {R : Type 0} (m : Ghosts R) (session : StoredSession) (seed number : �
   module _ (dimm : ℕ) where
     unknown-unchanged : has_module session.platform dimm ≡ false → (result : Result Reply RunFault) → HasApplied m session (Change (InitLabels dimm)) own old now new result → may_change (Change (InitLabels dimm)) result ≡ false
     unknown-unchanged absent (Ok reply) has = unknown-refused session.platform (slots_of session) (labels_of session) own dimm absent reply (state_of now) (has.step (inr absent))
-    unknown-unchanged absent (Err (faults.Area failed)) has = absurd (known-fault session.platform (slots_of session) (labels_of session) own dimm absent failed has.at has.among)
+    unknown-unchanged absent (Err (faults.Area failed)) has = absurd (known-fault session.platform dimm absent failed has.at has.among)
     unknown-unchanged absent (Err faults.Memory) has = refl
     unknown-unchanged absent (Err faults.Spent) has = refl
 

@@ -17,7 +17,8 @@ use Rattle.table_steps.specs.Changes.{IsDoneBy}
 use Rattle.table_steps.specs.Create.{Creates, IsCreated}
 use Rattle.namespace_commands.specs.declared.creation.ChangeFault.{ChangeFault}
 use Rattle.namespace_commands.specs.declared.creation.ChangeFault.TheVariants as faults
-use Rattle.namespace_commands.specs.Create.{IsCreateRefusal, WhereMemory, WhereRefused}
+use Rattle.view_types.specs.Replies.{WhereRefused}
+use Rattle.namespace_commands.specs.Create.{IsCreateRefusal, WhereMemory}
 use Rattle.namespace_commands.specs.Lists.{IsStateOf}
 use Rattle.namespace_commands.proofs.AcceptedCreates.{HasFree, has-free, some-free}
 use Rattle.namespace_commands.proofs.Refused.{no-region}

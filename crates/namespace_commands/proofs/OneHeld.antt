@@ -22,7 +22,6 @@ use Rattle.label_table.specs.Fates.{held_count, is_held, without_slot}
 use Rattle.label_table.specs.Tables.{State, state}
 use Rattle.label_table.proofs.ListTests.{Contains-cases, Contains-here, Contains-none, Contains-there}
 use Rattle.region_labels.specs.Held.{held_at, held_below, held_key, held_of, key_cmp}
-use Rattle.region_labels.specs.declared.held.HeldKey.{HeldKey}
 use Rattle.namespace_commands.specs.Lists.{AreHeldOf}
 
 -- Two lists in one order are the same where they have each element as often.
@@ -110,15 +109,12 @@ rises cmp total tied (x ∷ xs) far = (
 abbrev held_cmp : Held → Held → Ordering
 held_cmp a b = key_cmp (held_key a) (held_key b)
 
-key_total : IsTotalOrder key_cmp
-key_total =
-    then_total (on_total (λ (k : HeldKey). k.dpa) nat_cmp_total) (then_total (on_total (λ (k : HeldKey). k.size) nat_cmp_total)
-    (then_total (on_total (λ (k : HeldKey). k.uuid) nat_list_cmp_total) (then_total (on_total (λ (k : HeldKey). k.local) bool_cmp_total)
-    (then_total (on_total (λ (k : HeldKey). k.read_only) bool_cmp_total) (then_total (on_total (λ (k : HeldKey). k.updating) bool_cmp_total)
-    (on_total (λ (k : HeldKey). k.region) (options_total nat_cmp_total)))))))
-
 held_total : IsTotalOrder held_cmp
-held_total = on_total held_key key_total
+held_total =
+    then_total (on_total (λ (h : Held). h.dpa) nat_cmp_total) (then_total (on_total (λ (h : Held). h.size) nat_cmp_total)
+    (then_total (on_total (λ (h : Held). h.uuid) nat_list_cmp_total) (then_total (on_total (λ (h : Held). h.local) bool_cmp_total)
+    (then_total (on_total (λ (h : Held). h.read_only) bool_cmp_total) (then_total (on_total (λ (h : Held). h.updating) bool_cmp_total)
+    (on_total (λ (h : Held). h.region) (options_total nat_cmp_total)))))))
 
 then_both : (o p : Ordering) → ordering_then o p ≡ Equal → (o ≡ Equal) × (p ≡ Equal)
 then_both Less p e = absurd cc
@@ -189,7 +185,7 @@ module _ (P : Platform) (L : Labels) (h : ℕ) (p : Held → Bool) where
   held-summed held are = sum_by-IsPermutation passes (held_below P L h (L h).at (L h).slots) held are.same ∙ below-summed (L h).at (L h).slots
 
 held-rises : (P : Platform) (L : Labels) (h : ℕ) (held : List Held) → AreHeldOf P L h held → Rises held_cmp held_total held_tied held
-held-rises P L h held are = rises held_cmp held_total held_tied held (λ i j d le lt. sorted_far (λ a b. is_lt (held_cmp a b)) (ranks_by key_total held_key) held are.order i j d le lt)
+held-rises P L h held are = rises held_cmp held_total held_tied held (λ i j d le lt. sorted_far (λ a b. is_lt (held_cmp a b)) (ranks_by held_total (λ (h : Held). h)) held are.order i j d le lt)
 
 pub held-one : (P : Platform) (L M : Labels) → state P M ≡ state P L → (h : ℕ) (held other : List Held) → AreHeldOf P L h held → AreHeldOf P M h other → held ≡ other
 held-one P L M same h held other are too =

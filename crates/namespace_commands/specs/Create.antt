@@ -5,9 +5,7 @@ use Rattle.std.specs.List.{All}
 use Rattle.view_types.specs.declared.extents.Extent.{Extent}
 use Rattle.view_types.specs.declared.namespaces.Namespace.{Namespace}
 use Rattle.view_types.specs.declared.refusal.Refusal.{Refusal}
-use Rattle.view_types.specs.declared.reply.Reply.{Reply}
 use Rattle.view_types.specs.Intervals.{IsFirstFit}
-use Rattle.view_types.specs.Replies.{WhereRefusal, kind_of}
 use Rattle.rig_trait.specs.declared.shown.Shown.{Ghosts}
 use Rattle.rig_trait.specs.Frames.{FailsAt, IsTold, LeavesOnly}
 use Rattle.label_area.specs.Flips.{is_among}
@@ -61,10 +59,6 @@ pub record IsNewSpace (platform : Platform) (labels : Labels) (asked : NewNamesp
 abbrev pub IsBeforeOrAfter : Platform → Labels → NewNamespace → Labels → Type 0
 IsBeforeOrAfter platform before asked labels =
     IsBeforeOrBehind platform before (Creates platform before asked) labels
-
--- a fact where the reply is a refusal
-abbrev pub WhereRefused : Type 0 → Reply → Type 0
-WhereRefused fact reply = WhereRefusal fact (kind_of reply)
 
 -- a fact where no memory was given
 abbrev pub WhereMemory : Type 0 → ChangeFault → Type 0

@@ -10,7 +10,7 @@ use Rattle.view_types.specs.declared.reply.Reply.TheVariants.{Initialised, Refus
 use Rattle.view_types.specs.declared.states.AreaState.{AreaState}
 use Rattle.view_types.specs.declared.states.AreaState.TheVariants as states
 use Rattle.view_types.specs.declared.states.Status.TheVariants.{Area}
-use Rattle.view_types.specs.Replies.{is_change}
+use Rattle.view_types.specs.Replies.{WhereRefused, is_change}
 use Rattle.rig_trait.specs.Areas.{Areas}
 use Rattle.rig_trait.specs.declared.shown.Shown.{Ghosts}
 use Rattle.rig_trait.specs.Frames.{IsTold, LeavesOnly, Reads}
@@ -31,7 +31,7 @@ use Rattle.table_steps.specs.Initialise.{Initialises}
 use Rattle.namespace_commands.specs.declared.creation.ChangeFault.{ChangeFault}
 use Rattle.namespace_commands.specs.declared.creation.ChangeFault.TheVariants as faults
 use Rattle.namespace_commands.specs.Changes.{IsBeforeOrBehind}
-use Rattle.namespace_commands.specs.Create.{HasChangeCause, WhereMemory, WhereRefused}
+use Rattle.namespace_commands.specs.Create.{HasChangeCause, WhereMemory}
 use Rattle.namespace_commands.specs.Releases.{IsAreaOf}
 
 -- why the area of a module in this state is not initialised

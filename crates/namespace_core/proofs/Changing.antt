@@ -2,7 +2,7 @@
 use Rattle.std.proofs.Common.{◌≡◌, inl, inr, ℕ, Bool, false, true, List, ◌∷◌, [], Result, Ok, Err, refl, sym, subst, ◌∙◌}
 use Rattle.std.specs.Prelude.{IfOk, IfErr, OnOk}
 use Rattle.view_types.specs.declared.reply.Reply.{Reply}
-use Rattle.view_types.specs.Replies.{is_change}
+use Rattle.view_types.specs.Replies.{WhereRefused, is_change}
 use Rattle.rig_trait.specs.declared.shown.Shown.{Ghosts}
 use Rattle.rig_trait.specs.Areas.{Areas}
 use Rattle.rig_trait.specs.Frames.{LeavesOnly, Reads}
@@ -21,7 +21,7 @@ use Rattle.cmd_words.specs.declared.parts.Change.TheVariants.{InitLabels}
 use Rattle.namespace_commands.specs.declared.creation.ChangeFault.{ChangeFault}
 use Rattle.namespace_commands.specs.declared.creation.ChangeFault.TheVariants.{Area, Memory}
 use Rattle.namespace_commands.specs.Commands.{IsChange}
-use Rattle.namespace_commands.specs.Create.{HasChangeCause, WhereMemory, WhereRefused}
+use Rattle.namespace_commands.specs.Create.{HasChangeCause, WhereMemory}
 use Rattle.namespace_commands.specs.EachChange.{IsChangeDone, written_by}
 use Rattle.namespace_commands.specs.Initialising.{InitialisesAnyhow, InitialisesArea, IsInit, Stand}
 use Rattle.namespace_commands.specs.Lists.{IsStateOf}

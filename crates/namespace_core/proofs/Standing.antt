@@ -24,7 +24,7 @@ use Rattle.namespace_core.specs.declared.faults.RunFault.TheVariants.{Area, Memo
 use Rattle.namespace_core.specs.Commands.{may_change, written_by}
 use Rattle.namespace_core.specs.Faults.{IsRunAt, is_area}
 use Rattle.namespace_core.specs.Sessions.{IsCurrent, StoredSession, stored_slots}
-use Rattle.namespace_commands.proofs.Initialising.{standing}
+use Rattle.namespace_commands.proofs.InitEnds.{standing}
 
 slots-of-size : (stored : Option (List ℕ)) → slots_by_size (option_map length stored) ≡ area.slots_of stored
 slots-of-size None = refl

@@ -13,14 +13,13 @@ use Rattle.label_table.specs.Tables.{state}
 use Rattle.module_flips.specs.Stops.{LeftIn}
 use Rattle.module_flips.specs.Stored.{StandsIn}
 use Rattle.module_flips.proofs.Turned.{no_flip}
-use Rattle.namespace_passes.proofs.Records.{no_write}
 use Rattle.label_sets.specs.Init.{slots_at}
 use Rattle.label_sets.specs.Sets.{StoredSets, labels_in}
 use Rattle.cmd_words.specs.declared.parts.Part.{Part}
 use Rattle.namespace_commands.specs.Lists.{IsStateOf}
 use Rattle.namespace_core.specs.declared.faults.RunFault.{RunFault}
 use Rattle.namespace_commands.specs.Initialising.{Stand}
-use Rattle.namespace_commands.proofs.Initialising.{standing}
+use Rattle.namespace_commands.proofs.InitEnds.{standing}
 use Rattle.namespace_core.specs.Commands.{Does, IsBeforeOrAfter, SaysIfKnown, Tells, is_init, may_change, written_by}
 use Rattle.namespace_core.specs.Done.{IsDone, run_by, told_by}
 use Rattle.namespace_core.specs.Faults.{HasRunCause, IsRunAmong, IsRunAt}
@@ -65,7 +64,10 @@ module _ {R : Type 0} (m : Ghosts R) (P : Platform) (sets : StoredSets) (in_P : 
       any_moment = still part own rig;
       kept = λ quiet_so. refl;
       reads_only = λ quiet_so. no_call m rig;
-      writes = no_write (written_by P part) rig;
+      writes = record {
+        others = λ told q other_module. refl;
+        says = record { said = refl; say_faults = refl; goes_on = (no_call m rig).goes_on };
+      };
       area = λ told. no-bytes part other (m.areas rig) (m.areas rig) (run_by (told_by result));
       area_left = λ init. absurd (let differ : true ≡ false = sym init ∙ other in cc);
       cause = no-cause result;

@@ -2,7 +2,7 @@ use Rattle.std.proofs.Common.{◌≡◌, ℕ, List, Bool, true, false, sym, subs
 use Rattle.std.specs.Prelude.{◌==◌}
 use Rattle.std.specs.List.{list_any}
 use Rattle.namespace_commands.specs.Initialising.{IsInit}
-use Rattle.namespace_commands.proofs.Initialising.{found, init-is-done, unknown-done}
+use Rattle.namespace_commands.proofs.InitEnds.{found, init-is-done, unknown-done}
 use Rattle.namespace_commands.proofs.initialising.init_labels.Goals as goal
 
 -- what is found in a list that is another

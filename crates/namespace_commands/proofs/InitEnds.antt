@@ -9,7 +9,7 @@ use Rattle.view_types.specs.declared.refusal.Refusal.TheVariants.{UnknownDimm}
 use Rattle.view_types.specs.declared.reply.Reply.TheVariants.{Initialised, Refused}
 use Rattle.view_types.specs.declared.states.AreaState.{AreaState}
 use Rattle.view_types.specs.declared.states.AreaState.TheVariants as states
-use Rattle.view_types.specs.Replies.{is_change}
+use Rattle.view_types.specs.Replies.{WhereRefused, is_change}
 use Rattle.rig_trait.specs.Areas.{Areas}
 use Rattle.rig_trait.specs.Frames.{FailsAt, IsTold, LeavesOnly, Reads, WritesTo}
 use Rattle.rig_trait.specs.declared.shown.Shown.{Ghosts}
@@ -48,7 +48,7 @@ use Rattle.label_table.proofs.ListTests.{eq_same}
 use Rattle.namespace_passes.proofs.Records.{no_write, one_write_more}
 use Rattle.label_area.proofs.Initialising.{looking}
 use Rattle.namespace_commands.specs.Changes.{IsBeforeOrBehind}
-use Rattle.namespace_commands.specs.Create.{HasChangeCause, WhereMemory, WhereRefused}
+use Rattle.namespace_commands.specs.Create.{HasChangeCause, WhereMemory}
 use Rattle.namespace_commands.specs.Releases.{IsAreaOf}
 use Rattle.namespace_commands.specs.Initialising.{InitialisesAnyhow, InitialisesArea, IsInit, Stand, init_answer, init_refusal}
 
