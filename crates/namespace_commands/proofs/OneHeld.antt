@@ -54,15 +54,15 @@ module _ {X : Type 0} (cmp : X → X → Ordering) (total : IsTotalOrder cmp) (t
 
   there : (v : X) (xs : List X) → 0 < sum_by (often v) xs → Contains xs v
   there v [] some = absurd (omega (arith, some))
-  there v (x ∷ xs) some = by (cmp v x) refl
+  there v (x ∷ xs) some = by (there v xs) (cmp v x) refl
     where
       sums : sum_by (often v) (x ∷ xs) ≡ often v x + sum_by (often v) xs
       sums = sum_by-cons (often v) x xs
 
-      by : (o : Ordering) → cmp v x ≡ o → Contains (x ∷ xs) v
-      by Equal e = subst (Contains (x ∷ xs)) (sym (tied v x e)) (Contains-here x xs)
-      by Less e = Contains-there x xs v (there v xs (let none : often v x ≡ 0 = ap (λ (o : Ordering). if is_eq o then 1 else 0) e in omega (arith, none, sums, some)))
-      by Greater e = Contains-there x xs v (there v xs (let none : often v x ≡ 0 = ap (λ (o : Ordering). if is_eq o then 1 else 0) e in omega (arith, none, sums, some)))
+      by : (0 < sum_by (often v) xs → Contains xs v) → (o : Ordering) → cmp v x ≡ o → Contains (x ∷ xs) v
+      by behind Equal e = subst (Contains (x ∷ xs)) (sym (tied v x e)) (Contains-here x xs)
+      by behind Less e = Contains-there x xs v (behind (let none : often v x ≡ 0 = ap (λ (o : Ordering). if is_eq o then 1 else 0) e in omega (arith, none, sums, some)))
+      by behind Greater e = Contains-there x xs v (behind (let none : often v x ≡ 0 = ap (λ (o : Ordering). if is_eq o then 1 else 0) e in omega (arith, none, sums, some)))
 
   -- the first of a list is not above one of its elements
   least : (x : X) (xs : List X) → Rises (x ∷ xs) → (v : X) → Contains (x ∷ xs) v → is_lt (cmp v x) ≡ false
@@ -74,7 +74,7 @@ module _ {X : Type 0} (cmp : X → X → Ordering) (total : IsTotalOrder cmp) (t
       absurd (let none : 0 ≡ sum_by (often y) (y ∷ ys) = same y in let sums = sum_by-cons (often y) y ys in let is = once y in omega (arith, none, sums, is))
   one-order (x ∷ xs) [] up down same =
       absurd (let none : sum_by (often x) (x ∷ xs) ≡ 0 = same x in let sums = sum_by-cons (often x) x xs in let is = once x in omega (arith, none, sums, is))
-  one-order (x ∷ xs) (y ∷ ys) up down same = λ i. first i ∷ rest i
+  one-order (x ∷ xs) (y ∷ ys) up down same = λ i. first i ∷ one-order xs ys up.1 down.1 behind i
     where
       x_there : Contains (y ∷ ys) x
       x_there = there x (y ∷ ys) (let sums = sum_by-cons (often x) x xs in let is = once x in let e = same x in omega (arith, sums, is, e))
@@ -92,9 +92,6 @@ module _ {X : Type 0} (cmp : X → X → Ordering) (total : IsTotalOrder cmp) (t
           let other = sum_by-cons (often v) y ys in
           let heads : often v x ≡ often v y = ap (often v) first in
           omega (arith, e, one, other, heads)
-
-      rest : xs ≡ ys
-      rest = one-order xs ys up.1 down.1 behind
 
 -- no element is less than one before it
 rises : {X : Type 0} (cmp : X → X → Ordering) (total : IsTotalOrder cmp) (tied : (x y : X) → cmp x y ≡ Equal → x ≡ y)
