@@ -1,6 +1,7 @@
 use Rattle.std.proofs.Common.{◌≡◌, List, ℕ, Result, refl, sym, subst, ◌∙◌}
 use Rattle.view_types.specs.declared.reply.Reply.{Reply}
 use Rattle.cmd_words.specs.declared.parts.Part.{Part}
+use Rattle.cmd_words.specs.Parts.{part_of}
 use Rattle.cmd_words.specs.declared.parts.Part.TheVariants as parts
 use Rattle.label_sets.specs.Sets.{StoredSets, labels_in}
 use Rattle.namespace_commands.specs.declared.creation.ChangeFault.{ChangeFault}
@@ -29,7 +30,7 @@ returns-in-Query g c =
     let sets = c.args.sets.now in
     let own = c.args.own.now in
     let rig = c.args.rig.now in
-    subst (λ (after : StoredSets). IsDone g.R.Shown P _ own sets rig after rig (run_by c.told.result)) (sym c.show.ensures.same)
+    subst (λ (after : StoredSets). IsDone g.R.Shown P (part_of c.args.command.now) own sets rig after rig (run_by c.told.result)) (sym c.show.ensures.same)
     (subst (λ (part : Part). IsDone g.R.Shown P part own sets rig sets rig (run_by c.told.result)) (sym (sym c.part.ensures ∙ c.in-Query.is))
     (subst (λ (answer : Result Reply ChangeFault). IsDone g.R.Shown P (parts.Query c.in-Query.query) own sets rig sets rig (run_by answer)) (sym c.told.ensures)
     (tells-done g.R.Shown P sets c.requires.state (parts.Query c.in-Query.query) own rig c.show.result
