@@ -219,7 +219,7 @@ module _ {R : Type 0} (m : Ghosts R) (session : StoredSession) (seed number : â„
             does = record {
               labels = labels_of session;
               stands = refl;
-              does = says-fact session.platform (part_of command) (IsCurrent m old session) (Does session.platform (slots_of session) (labels_of session) (part_of command) own after.reply after.after) after.does;
+              does = says-fact session.platform (part_of command) (IsCurrent m old session) (Does session.platform (slots_of session) (labels_of session) (part_of command) own after.reply after.after) after.done;
               anyhow = does-anyhow session.platform (slots_of session) (labels_of session) (part_of command) own after.reply after.after after.done;
             };
             table_is = after.table_is;
