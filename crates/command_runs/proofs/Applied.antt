@@ -20,7 +20,6 @@ use Rattle.label_area.specs.Inits.{IsVacant, LeftByInit}
 use Rattle.label_area.specs.Modules.{area_kind}
 use Rattle.label_table.specs.Tables.{State, state}
 use Rattle.module_flips.specs.Stops.{LeftIn, WritesAmong}
-use Rattle.label_codec.specs.ModuleLabels.{Labels}
 use Rattle.label_codec.specs.declared.kind.AreaKind.{AreaKind}
 use Rattle.label_codec.specs.declared.kind.AreaKind.TheVariants as kinds
 use Rattle.region_map.specs.declared.platform.Platform.{Platform}

@@ -50,7 +50,7 @@ use Rattle.label_area.proofs.Initialising.{looking}
 use Rattle.namespace_commands.specs.Changes.{IsBeforeOrBehind}
 use Rattle.namespace_commands.specs.Create.{HasChangeCause, WhereMemory}
 use Rattle.namespace_commands.specs.Releases.{IsAreaOf}
-use Rattle.namespace_commands.specs.Initialising.{InitialisesAnyhow, InitialisesArea, IsInit, Stand, init_answer, init_refusal}
+use Rattle.namespace_commands.specs.Initialising.{InitialisesAnyhow, IsInit, Stand, init_answer, init_refusal}
 
 -- the labels of the areas
 pub standing : (P : Platform) (sets : StoredSets) → IsStateOf P sets → (areas : Areas) → All (StandsIn areas) sets.modules → labels_in sets ≡ stored_labels P.modules areas

@@ -1,10 +1,9 @@
 -- The held labels of a module have one list: it is in order, and has each as often as the table tells.
-use Rattle.std.proofs.Common.{◌≡◌, ◌⊎◌, inl, inr, ⊎_elim, ℕ, zero, suc, ◌+◌, ◌<◌, ◌≤◌, Bool, true, false, List, [], ◌∷◌, length, get_or, Option, Some, None, refl, sym, ap, subst, ◌∙◌, arith}
+use Rattle.std.proofs.Common.{◌≡◌, ◌⊎◌, ⊎_elim, ℕ, zero, suc, ◌+◌, ◌<◌, ◌≤◌, Bool, true, false, List, [], ◌∷◌, length, get_or, Option, Some, None, refl, sym, ap, subst, ◌∙◌, arith}
 use Rattle.std.specs.Prelude.{◌&&◌, if◌then◌else◌}
 use Rattle.std.specs.Cmp.{IsTotalOrder}
 use Rattle.std.specs.FinMap.{nat_cmp-IsAntisymmetric, slice_cmp-IsAntisymmetric}
 use Rattle.std.specs.List.{Contains, sum_by}
-use Rattle.std.specs.List.Sorted.{IsSortedByKey}
 use Rattle.std.specs.Cmp.Lexicographic.{options_total, slice_cmp}
 use Rattle.std.specs.Option.{option_cmp, option_to_list}
 use Rattle.std.specs.Ordering.{bool_cmp, is_eq, is_lt, nat_cmp, ordering_reverse, ordering_then}
@@ -20,7 +19,7 @@ use Rattle.label_codec.specs.ModuleLabels.{Labels, count, one}
 use Rattle.region_map.specs.declared.platform.Platform.{Platform}
 use Rattle.label_table.specs.Fates.{held_count, is_held, without_slot}
 use Rattle.label_table.specs.Tables.{State, state}
-use Rattle.label_table.proofs.ListTests.{Contains-cases, Contains-here, Contains-none, Contains-there}
+use Rattle.label_table.proofs.ListTests.{Contains-cases, Contains-here, Contains-there}
 use Rattle.region_labels.specs.Held.{held_at, held_below, held_key, held_of, key_cmp}
 use Rattle.namespace_commands.specs.Lists.{AreHeldOf}
 

@@ -2,13 +2,10 @@
 use Rattle.std.proofs.Common.{◌≡◌, ℕ, Bool, List, [], ◌∷◌, ◌++◌, Option, Some, None, length, map, refl, sym, ap, subst, ◌∙◌}
 use Rattle.std.specs.Prelude.{◌==◌, ◌^◌, ◌-◌, min}
 use Rattle.std.specs.List.{Contains}
-use Rattle.view_types.specs.declared.extents.Extent.{Extent}
 use Rattle.view_types.specs.Intervals.{AreMaximal}
-use Rattle.view_types.specs.declared.namespaces.Listed.{Listed}
 use Rattle.view_types.specs.declared.refusal.Refusal.{Refusal}
 use Rattle.view_types.specs.declared.reply.Reply.{Reply}
 use Rattle.view_types.specs.declared.reply.Reply.TheVariants.{Free, HeldList, Namespaces, Regions}
-use Rattle.view_types.specs.declared.views.RegionView.{RegionView}
 use Rattle.cmd_words.specs.declared.parts.Query.{Query}
 use Rattle.cmd_words.specs.declared.parts.Query.TheVariants as queries
 use Rattle.label_codec.specs.ModuleLabels.{Labels}
@@ -27,7 +24,7 @@ use Rattle.region_labels.specs.Marks.{listed}
 use Rattle.region_labels.specs.Statuses.{shown_status}
 use Rattle.table_steps.specs.Refusals.{IsReplyBy, area_by, first_of, unknown_dimm, unknown_region, unusable}
 use Rattle.table_steps.proofs.SameRegions.{free-same, lists, not_ready-same, statuses}
-use Rattle.namespace_commands.specs.Lists.{AreRegions, AreSpaces, AreSpacesOf, IsFree, IsFreeOf, IsHeld, IsHeldOf, IsShown, listed_by, shown_region, spaces_by, spaces_of, spaces_of_all, unread}
+use Rattle.namespace_commands.specs.Lists.{AreSpacesOf, IsFreeOf, IsHeldOf, IsShown, listed_by, shown_region, spaces_by, spaces_of, spaces_of_all, unread}
 use Rattle.namespace_commands.proofs.OneHeld.{held-one}
 
 -- where replies of two kinds are the same, so are those with the refusal before them

@@ -36,12 +36,7 @@ pub fn translate(
 ///
 /// Refused are, in this order, a region that the platform does not have, one that cannot be used or whose addresses
 /// cannot be translated, and an address outside its range.
-fn to_module(
-    alloc: Global,
-    platform: &Platform,
-    region: u16,
-    spa: u64,
-) -> Result<Reply, AllocError>
+fn to_module(alloc: Global, platform: &Platform, region: u16, spa: u64) -> Result<Reply, AllocError>
     requires { IsSound platform.now }
     ensures { IfOk result (IsToModule platform.now region spa) }
 {

@@ -1,5 +1,5 @@
 -- The commands that change areas.
-use Rattle.std.proofs.Common.{◌≡◌, inl, inr, ℕ, Bool, false, true, List, ◌∷◌, [], Result, Ok, Err, refl, sym, subst, ◌∙◌}
+use Rattle.std.proofs.Common.{◌≡◌, inl, inr, ℕ, false, true, List, ◌∷◌, [], Result, Ok, Err, refl, sym, subst, ◌∙◌}
 use Rattle.std.specs.Prelude.{IfOk, IfErr, OnOk}
 use Rattle.view_types.specs.declared.reply.Reply.{Reply}
 use Rattle.view_types.specs.Replies.{WhereRefused, is_change}
@@ -27,7 +27,7 @@ use Rattle.namespace_commands.specs.Initialising.{InitialisesAnyhow, Initialises
 use Rattle.namespace_commands.specs.Lists.{IsStateOf}
 use Rattle.namespace_commands.specs.Releases.{IsAreaOf}
 use Rattle.namespace_commands.proofs.RecoveredSpaces.{state-there}
-use Rattle.namespace_core.specs.Commands.{Does, DoesAnyhow, IsBeforeOrAfter, SaysIfKnown, is_init, result_changes}
+use Rattle.namespace_core.specs.Commands.{Does, IsBeforeOrAfter, SaysIfKnown, is_init, result_changes}
 use Rattle.namespace_core.specs.Done.{IsDone, run_by}
 use Rattle.namespace_core.specs.Faults.{HasRunCause, IsRunAmong, IsRunAt}
 use Rattle.namespace_core.proofs.Found.{no-bytes, said-told, says-fact}

@@ -1,8 +1,7 @@
-use Rattle.std.proofs.Common.{◌≡◌, ℕ, List, refl, sym, ap, subst, ◌∙◌}
+use Rattle.std.proofs.Common.{◌≡◌, ℕ, List, sym, subst, ◌∙◌}
 use Rattle.std.specs.Option.{unwrap_or}
 use Rattle.cmd_words.specs.declared.parts.Change.{Change}
 use Rattle.label_sets.specs.Sets.{labels_in}
-use Rattle.table_steps.specs.declared.new_namespace.NewNamespace.{NewNamespace}
 use Rattle.table_steps.specs.Create.{Creates}
 use Rattle.namespace_commands.specs.Commands.{IsChange}
 use Rattle.namespace_commands.specs.Create.{modules_of}
