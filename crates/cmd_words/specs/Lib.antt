@@ -8,3 +8,4 @@ pub mod Modes
 pub mod Values
 pub mod Commands
 pub mod Lines
+pub mod Parts

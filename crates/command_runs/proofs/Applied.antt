@@ -9,7 +9,10 @@ use Rattle.rig_trait.specs.Records.{CrashRecord}
 use Rattle.rig_trait.proofs.Frames.{reading}
 use Rattle.rig_trait.proofs.Moments.{weakened}
 use Rattle.cmd_words.specs.declared.commands.Command.{Command}
-use Rattle.cmd_words.specs.declared.commands.Command.TheVariants.{InitLabels}
+use Rattle.cmd_words.specs.declared.parts.Part.{Part}
+use Rattle.cmd_words.specs.declared.parts.Part.TheVariants.{Change}
+use Rattle.cmd_words.specs.declared.parts.Change.TheVariants.{InitLabels}
+use Rattle.cmd_words.specs.Parts.{part_of}
 use Rattle.label_area.specs.Flips.{is_among}
 use Rattle.label_area.specs.Fair.{IsFair}
 use Rattle.label_area.specs.Inits as area
@@ -17,48 +20,43 @@ use Rattle.label_area.specs.Inits.{IsVacant, LeftByInit}
 use Rattle.label_area.specs.Modules.{area_kind}
 use Rattle.label_table.specs.Tables.{State, state}
 use Rattle.module_flips.specs.Stops.{LeftIn, WritesAmong}
-use Rattle.label_codec.specs.ModuleLabels.{Labels}
 use Rattle.label_codec.specs.declared.kind.AreaKind.{AreaKind}
 use Rattle.label_codec.specs.declared.kind.AreaKind.TheVariants as kinds
 use Rattle.region_map.specs.declared.platform.Platform.{Platform}
 use Rattle.region_labels.specs.Modules.{dimm_of, size_in}
-use Rattle.namespace_core.specs.Commands.{Does, HasAreas, IsBeforeOrAfter, LeavesArea, SaysIfKnown, has_module, is_change, is_init, may_change, written_by}
+use Rattle.namespace_core.specs.Commands.{Does, DoesAnyhow, HasAreas, IsBeforeOrAfter, LeavesArea, SaysIfKnown, has_module, is_init, may_change, written_by}
 use Rattle.namespace_core.specs.Faults.{HasRunCause, IsRunAmong, IsRunAt, spent_after}
-use Rattle.namespace_core.specs.Found.{DoesAnyhow}
-use Rattle.namespace_core.proofs.Found.{does-anyhow}
+use Rattle.namespace_core.proofs.Found.{does-anyhow, says-fact, unknown-refused}
 use Rattle.namespace_core.specs.Sessions.{IsCurrent, StoredSession, labels_of, slots_of, state_of}
 use Rattle.namespace_core.specs.declared.faults.RunFault.{RunFault}
 use Rattle.namespace_core.specs.declared.faults.RunFault.TheVariants as faults
-use Rattle.table_steps.specs.Changes.{IsDoneBy}
-use Rattle.table_steps.specs.Initialise.{IsInitialised, already_ready, cannot_initialise}
-use Rattle.table_steps.specs.Refusals.{first_of, refused_if}
-use Rattle.view_types.specs.declared.refusal.Refusal.TheVariants.{UnknownDimm}
 use Rattle.view_types.specs.declared.reply.Reply.{Reply}
-use Rattle.command_runs.specs.Areas.{IsWritten, KeepsAreas, LeavesAreas, LeavesLabels, MayInitialise, changed_by_command, initialised_by_command}
+use Rattle.view_types.specs.Replies.{is_change}
+use Rattle.command_runs.specs.Areas.{IsWritten, KeepsAreas, LeavesAreas, MayInitialise, OnlyTells, changed_by_part, initialised_by_part}
 use Rattle.command_runs.specs.Faults.{HasAreaFaults, IsAmong, fails_at, is_area, is_say}
 use Rattle.command_runs.specs.Turns.{Answers, DoesOn, LeftUnsaid, answer_by}
 use Rattle.command_runs.specs.Uuids.{own_uuid}
-use Rattle.command_runs.proofs.Commands.{not-init, says-fact, unchanged}
+use Rattle.command_runs.proofs.Commands.{not-init, unchanged}
 
 -- What a session promises of a command.
-pub record HasApplied {R : Type 0} (m : Ghosts R) (session : StoredSession) (command : Command) (own : List ℕ) (old : R) (now : StoredSession) (new : R) (result : Result Reply RunFault) : Type 0 where
-  pub step : IfOk result (λ reply. SaysIfKnown session.platform command (IsCurrent m old session) (Does session.platform (slots_of session) (labels_of session) command own reply (state_of now)))
-  pub anyhow : IfOk result (λ reply. DoesAnyhow session.platform (slots_of session) (labels_of session) command own reply (state_of now))
+pub record HasApplied {R : Type 0} (m : Ghosts R) (session : StoredSession) (part : Part) (own : List ℕ) (old : R) (now : StoredSession) (new : R) (result : Result Reply RunFault) : Type 0 where
+  pub step : IfOk result (λ reply. SaysIfKnown session.platform part (IsCurrent m old session) (Does session.platform (slots_of session) (labels_of session) part own reply (state_of now)))
+  pub anyhow : IfOk result (λ reply. DoesAnyhow session.platform (slots_of session) (labels_of session) part own reply (state_of now))
   pub current : IsCurrent m old session → OnOk result (IsCurrent m new now)
-  pub any_moment : IsCurrent m old session → LeavesOnly m old new (LeftIn session.platform.modules (m.said old) (IsBeforeOrAfter session.platform (slots_of session) (labels_of session) command own))
-  pub kept : may_change command result ≡ false → now ≡ session
-  pub reads_only : may_change command result ≡ false → Reads m old new
-  pub writes : WritesAmong (written_by session.platform command) m old new
-  pub area : IsTold m old → HasAreas command (m.areas old) (m.areas new) result
-  pub area_left : is_init command ≡ true → IsTold m old → LeavesOnly m old new (LeavesArea command (m.areas old) (m.said old))
+  pub any_moment : IsCurrent m old session → LeavesOnly m old new (LeftIn session.platform.modules (m.said old) (IsBeforeOrAfter session.platform (slots_of session) (labels_of session) part own))
+  pub kept : may_change part result ≡ false → now ≡ session
+  pub reads_only : may_change part result ≡ false → Reads m old new
+  pub writes : WritesAmong (written_by session.platform part) m old new
+  pub area : IsTold m old → HasAreas part (m.areas old) (m.areas new) result
+  pub area_left : is_init part ≡ true → IsTold m old → LeavesOnly m old new (LeavesArea part (m.areas old) (m.said old))
   pub cause : HasRunCause m old new result
   pub among : IfErr result (IsRunAmong session.platform.modules)
-  pub at : IfErr result (IsRunAt (written_by session.platform command))
+  pub at : IfErr result (IsRunAt (written_by session.platform part))
   pub spends : now.spent ≡ spent_after session.spent result
   pub platform : now.platform ≡ session.platform
   pub dimms : map dimm_of now.sets.modules ≡ map dimm_of session.sets.modules
   pub sizes : map size_in now.sets.modules ≡ map size_in session.sets.modules
-  pub reads : is_init command ≡ false → m.reads new ≡ m.reads old
+  pub reads : is_init part ≡ false → m.reads new ≡ m.reads old
 
 not_both : {b : Bool} → b ≡ true → b ≡ false → ⊥
 not_both is other = cc
@@ -94,16 +92,7 @@ cause-answer m old new (Err faults.Memory) is = is
 cause-answer m old new (Err faults.Spent) is = is
 
 -- the platform has no module with this handle, which is not initialised
-module _ (platform : Platform) (slots : ℕ → ℕ) (labels : Labels) (own : List ℕ) (dimm : ℕ) (absent : has_module platform dimm ≡ false) where
-  unknown-refused : (reply : Reply) (after : State) → Does platform slots labels (InitLabels dimm) own reply after → is_change reply ≡ false
-  unknown-refused reply after does = by (has_module platform dimm) absent does
-    where
-      by : (b : Bool) → b ≡ false
-          → IsDoneBy (first_of (refused_if (not b) (UnknownDimm dimm) ∷ cannot_initialise dimm (labels dimm).kind ∷ already_ready dimm (labels dimm).kind ∷ []))
-          (state platform labels) (IsInitialised platform labels dimm (slots dimm)) reply after → is_change reply ≡ false
-      by true is done = absurd cc
-      by false is done = ap is_change done.0
-
+module _ (platform : Platform) (dimm : ℕ) (absent : has_module platform dimm ≡ false) where
   known-fault : (failed : ℕ) → is_among (dimm ∷ []) failed ≡ true → has_module platform failed ≡ true → ⊥
   known-fault failed is known = by (eqb failed dimm) refl
     where
@@ -117,9 +106,9 @@ module _ {R : Type 0} (m : Ghosts R) (session : StoredSession) (seed number : �
 
   -- the area of one module is initialised
   module _ (dimm : ℕ) where
-    unknown-unchanged : has_module session.platform dimm ≡ false → (result : Result Reply RunFault) → HasApplied m session (InitLabels dimm) own old now new result → may_change (InitLabels dimm) result ≡ false
+    unknown-unchanged : has_module session.platform dimm ≡ false → (result : Result Reply RunFault) → HasApplied m session (Change (InitLabels dimm)) own old now new result → may_change (Change (InitLabels dimm)) result ≡ false
     unknown-unchanged absent (Ok reply) has = unknown-refused session.platform (slots_of session) (labels_of session) own dimm absent reply (state_of now) (has.step (inr absent))
-    unknown-unchanged absent (Err (faults.Area failed)) has = absurd (known-fault session.platform (slots_of session) (labels_of session) own dimm absent failed has.at has.among)
+    unknown-unchanged absent (Err (faults.Area failed)) has = absurd (known-fault session.platform dimm absent failed has.at has.among)
     unknown-unchanged absent (Err faults.Memory) has = refl
     unknown-unchanged absent (Err faults.Spent) has = refl
 
@@ -136,11 +125,11 @@ module _ {R : Type 0} (m : Ghosts R) (session : StoredSession) (seed number : �
     abbrev Kept : Result Reply RunFault → ℕ → Type 0
     Kept result q = (get (m.areas new) q ≡ get (m.areas old) q) ⊎ (MayInitialise session.platform (dimm ∷ []) q (m.areas old) × IsWritten (fails_at (answer_by result) q) q (m.areas old) (m.areas new))
 
-    kept-quiet : (result : Result Reply RunFault) → HasApplied m session (InitLabels dimm) own old now new result → may_change (InitLabels dimm) result ≡ false → Kept result dimm
+    kept-quiet : (result : Result Reply RunFault) → HasApplied m session (Change (InitLabels dimm)) own old now new result → may_change (Change (InitLabels dimm)) result ≡ false → Kept result dimm
     kept-quiet result has quiet = inl (ap (λ (a : Areas). get a dimm) (has.reads_only quiet).areas)
 
     kept-uninit : IsCurrent m old session → has_module session.platform dimm ≡ true → area_kind (get (m.areas old) dimm) ≡ kinds.Uninit
-        → (result : Result Reply RunFault) → HasApplied m session (InitLabels dimm) own old now new result → Kept result dimm
+        → (result : Result Reply RunFault) → HasApplied m session (Change (InitLabels dimm)) own old now new result → Kept result dimm
     kept-uninit current known uninit (Ok reply) has = by (is_change reply) refl
       where
         by : (b : Bool) → is_change reply ≡ b → Kept (Ok reply) dimm
@@ -151,7 +140,7 @@ module _ {R : Type 0} (m : Ghosts R) (session : StoredSession) (seed number : �
     kept-uninit current known uninit (Err faults.Memory) has = kept-quiet (Err faults.Memory) has refl
     kept-uninit current known uninit (Err faults.Spent) has = kept-quiet (Err faults.Spent) has refl
 
-    kept-here : IsCurrent m old session → (result : Result Reply RunFault) → HasApplied m session (InitLabels dimm) own old now new result → Kept result dimm
+    kept-here : IsCurrent m old session → (result : Result Reply RunFault) → HasApplied m session (Change (InitLabels dimm)) own old now new result → Kept result dimm
     kept-here current result has = by_module (has_module session.platform dimm) refl
       where
         by_kind : has_module session.platform dimm ≡ true → (k : AreaKind) → area_kind (get (m.areas old) dimm) ≡ k → Kept result dimm
@@ -162,7 +151,7 @@ module _ {R : Type 0} (m : Ghosts R) (session : StoredSession) (seed number : �
         by_module true known = by_kind known (area_kind (get (m.areas old) dimm)) refl
         by_module false absent = kept-quiet result has (unknown-unchanged absent result has)
 
-    kept-init : IsCurrent m old session → (result : Result Reply RunFault) → HasApplied m session (InitLabels dimm) own old now new result → (q : ℕ) → Kept result q
+    kept-init : IsCurrent m old session → (result : Result Reply RunFault) → HasApplied m session (Change (InitLabels dimm)) own old now new result → (q : ℕ) → Kept result q
     kept-init current result has q = elim (cases_eq q dimm) [
       | inl same ↦ subst (Kept result) (sym same) (kept-here current result has)
       | inr other ↦ inl (has.writes.others current.told q (by (eqb q dimm) refl other))
@@ -190,17 +179,17 @@ module _ {R : Type 0} (m : Ghosts R) (session : StoredSession) (seed number : �
       | inr other ↦ inl (left.others q other)
     ]
 
-  keeps : (command : Command) (result : Result Reply RunFault) → HasApplied m session command own old now new result → IsCurrent m old session
-      → KeepsAreas (fails_at (answer_by result)) session.platform (changed_by_command session.platform command) (initialised_by_command session.platform command) (m.areas old) (m.areas new)
-  keeps (InitLabels dimm) result has current = λ q other. kept-init dimm current result has q
+  keeps : (part : Part) (result : Result Reply RunFault) → HasApplied m session part own old now new result → IsCurrent m old session
+      → KeepsAreas (fails_at (answer_by result)) session.platform (changed_by_part session.platform part) (initialised_by_part session.platform part) (m.areas old) (m.areas new)
+  keeps (Change (InitLabels dimm)) result has current = λ q other. kept-init dimm current result has q
   keeps _ result has current = λ q other. inl (has.writes.others current.told q other)
 
   quiet-left : (named : List ℕ) → Reads m old new → LeavesOnly m old new (LeavesAreas session.platform named (m.areas old))
   quiet-left named = reading (LeavesAreas session.platform named (m.areas old)) (λ c same said q. inl (ap (λ (a : Areas). get a q) same))
 
-  leaves : (command : Command) (result : Result Reply RunFault) → HasApplied m session command own old now new result → IsCurrent m old session → LeavesLabels (Ok (Some command))
-      → LeavesOnly m old new (LeavesAreas session.platform (initialised_by_command session.platform command) (m.areas old))
-  leaves (InitLabels dimm) result has current fits = by (has_module session.platform dimm) refl
+  leaves : (part : Part) (result : Result Reply RunFault) → HasApplied m session part own old now new result → IsCurrent m old session → (is_init part ≡ true) ⊎ OnlyTells part
+      → LeavesOnly m old new (LeavesAreas session.platform (initialised_by_part session.platform part) (m.areas old))
+  leaves (Change (InitLabels dimm)) result has current fits = by (has_module session.platform dimm) refl
     where
       by : (b : Bool) → has_module session.platform dimm ≡ b → LeavesOnly m old new (LeavesAreas session.platform (dimm ∷ []) (m.areas old))
       by true known = weakened (LeftByInit (m.areas old) (m.said old) dimm) (LeavesAreas session.platform (dimm ∷ []) (m.areas old)) (left-init dimm known) (has.area_left refl current.told)
@@ -208,9 +197,9 @@ module _ {R : Type 0} (m : Ghosts R) (session : StoredSession) (seed number : �
   leaves _ result has current (inl init) = absurd cc
   leaves _ result has current (inr only) = quiet-left [] (has.reads_only (only result))
 
-  module _ (command : Command) (result : Result Reply RunFault) (has : HasApplied m session command own old now new result) where
-    does-answer : (r : Result Reply RunFault) → IfOk r (λ reply. SaysIfKnown session.platform command (IsCurrent m old session) (Does session.platform (slots_of session) (labels_of session) command own reply (state_of now)))
-        → IfOk r (λ reply. DoesAnyhow session.platform (slots_of session) (labels_of session) command own reply (state_of now))
+  module _ (command : Command) (result : Result Reply RunFault) (has : HasApplied m session (part_of command) own old now new result) where
+    does-answer : (r : Result Reply RunFault) → IfOk r (λ reply. SaysIfKnown session.platform (part_of command) (IsCurrent m old session) (Does session.platform (slots_of session) (labels_of session) (part_of command) own reply (state_of now)))
+        → IfOk r (λ reply. DoesAnyhow session.platform (slots_of session) (labels_of session) (part_of command) own reply (state_of now))
         → IfOk (answer_by r) (λ reply. DoesOn (IsCurrent m old session) session seed number (Ok (Some command)) reply (state_of now))
     does-answer (Ok reply) does anyhow = record { labels = labels_of session; stands = refl; does = does; anyhow = anyhow }
     does-answer (Err (faults.Area dimm)) does anyhow = tt
@@ -219,7 +208,7 @@ module _ {R : Type 0} (m : Ghosts R) (session : StoredSession) (seed number : �
 
     left-command : IsCurrent m old session → LeavesOnly m old new (LeftUnsaid (IsCurrent m old session) session seed number (Ok (Some command)) (m.said old))
     left-command current =
-        let Before = LeftIn session.platform.modules (m.said old) (IsBeforeOrAfter session.platform (slots_of session) (labels_of session) command own) in
+        let Before = LeftIn session.platform.modules (m.said old) (IsBeforeOrAfter session.platform (slots_of session) (labels_of session) (part_of command) own) in
         weakened Before (LeftUnsaid (IsCurrent m old session) session seed number (Ok (Some command)) (m.said old))
         (λ c left. record {
           said_is = left.said_is;
@@ -229,8 +218,8 @@ module _ {R : Type 0} (m : Ghosts R) (session : StoredSession) (seed number : �
             does = record {
               labels = labels_of session;
               stands = refl;
-              does = says-fact session.platform command (IsCurrent m old session) (Does session.platform (slots_of session) (labels_of session) command own after.reply after.after) after.does;
-              anyhow = does-anyhow session.platform (slots_of session) (labels_of session) command own after.reply after.after after.does;
+              does = says-fact session.platform (part_of command) (IsCurrent m old session) (Does session.platform (slots_of session) (labels_of session) (part_of command) own after.reply after.after) after.done;
+              anyhow = does-anyhow session.platform (slots_of session) (labels_of session) (part_of command) own after.reply after.after after.done;
             };
             table_is = after.table_is;
           })) (left.labels fair);
@@ -241,15 +230,15 @@ module _ {R : Type 0} (m : Ghosts R) (session : StoredSession) (seed number : �
       does = does-answer result has.step has.anyhow;
       current = λ current. on-answer (IsCurrent m new now) result (has.current current);
       any_moment = left-command;
-      kept = λ none. has.kept (unchanged command result none);
-      reads_only = λ none. has.reads_only (unchanged command result none);
-      bytes = keeps command result has;
-      bytes_left = leaves command result has;
+      kept = λ none. has.kept (unchanged (part_of command) result none);
+      reads_only = λ none. has.reads_only (unchanged (part_of command) result none);
+      bytes = keeps (part_of command) result has;
+      bytes_left = leaves (part_of command) result has;
       nothing = has.writes.says;
       cause = cause-answer m old new result has.cause;
       not_say = not-say result;
       among = among-answer session.platform result has.among;
-      reads = λ none. has.reads (not-init session.platform command none);
+      reads = λ none. has.reads (not-init session.platform (part_of command) none);
       spends = has.spends ∙ spent-answer session.spent unspent result;
       platform = has.platform;
       dimms = has.dimms;

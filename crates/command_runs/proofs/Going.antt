@@ -10,9 +10,11 @@ use Rattle.rig_trait.specs.declared.shown.Shown.{Ghosts}
 use Rattle.rig_trait.specs.Areas.{Areas}
 use Rattle.rig_trait.specs.Frames.{FailsAt, GoesOn, IsTold, LeavesOnly}
 use Rattle.rig_trait.specs.Records.{CrashRecord}
-use Rattle.rig_trait.proofs.Frames.{goes_on, reading}
+use Rattle.rig_trait.proofs.Frames.{goes_on, no_call, reading}
 use Rattle.rig_trait.proofs.Moments.{joined, started, weakened}
 use Rattle.cmd_words.specs.declared.commands.Command.{Command}
+use Rattle.cmd_words.specs.declared.parts.Part.{Part}
+use Rattle.cmd_words.specs.Parts.{part_of}
 use Rattle.cmd_words.specs.Lines.{command_in}
 use Rattle.label_table.specs.Tables.{State, state}
 use Rattle.module_flips.specs.Flips.{IsSizedIn}
@@ -20,10 +22,8 @@ use Rattle.label_codec.specs.ModuleLabels.{Labels}
 use Rattle.namespace_passes.proofs.StagedFlips.{sized-on}
 use Rattle.region_map.specs.declared.platform.Platform.{Platform}
 use Rattle.region_labels.specs.Modules.{dimm_of, size_in}
-use Rattle.namespace_core.specs.Commands.{Does, SaysIfKnown}
-use Rattle.namespace_core.specs.Found.{DoesAnyhow}
+use Rattle.namespace_core.specs.Commands.{Does, DoesAnyhow, SaysIfKnown}
 use Rattle.namespace_core.specs.Sessions.{IsCurrent, StoredSession, slots_of, state_of}
-use Rattle.namespace_core.proofs.Telling.{no_call}
 use Rattle.view_types.specs.declared.reply.Reply.{Reply}
 use Rattle.view_types.specs.declared.word_fault.WordFault.{WordFault}
 use Rattle.command_runs.specs.declared.faults.LineFault.{LineFault}
@@ -125,26 +125,26 @@ module _ {R : Type 0} (m : Ghosts R) (start : StoredSession) (seed : ℕ) (lines
         sized-on start.sets.modules session.sets.modules (m.areas old) (m.areas mid) going.dimms going.sizes (going.goes_on.sizes told_first) (sized told_first)
 
     -- the line as the session sees it is the one of the run
-    command-in-run : (number : ℕ) (command : Command) (reply : Reply) (after : State) (labels : Labels)
-        → SaysIfKnown session.platform command (IsCurrent m mid session) (Does session.platform (slots_of session) labels command (own_uuid seed number) reply after)
-        → SaysIfKnown start.platform command known (Does start.platform (slots_of start) labels command (own_uuid seed number) reply after)
-    command-in-run number command reply after labels does =
-        subst (λ (slots : ℕ → ℕ). SaysIfKnown start.platform command known (Does start.platform slots labels command (own_uuid seed number) reply after)) (slots-same start.sets session.sets going.dimms going.sizes)
-        (subst (λ (platform : Platform). SaysIfKnown platform command known (Does platform (slots_of session) labels command (own_uuid seed number) reply after)) going.platform
-        (says-on session.platform command (IsCurrent m mid session) known (Does session.platform (slots_of session) labels command (own_uuid seed number) reply after) going.through.current does))
+    command-in-run : (number : ℕ) (part : Part) (reply : Reply) (after : State) (labels : Labels)
+        → SaysIfKnown session.platform part (IsCurrent m mid session) (Does session.platform (slots_of session) labels part (own_uuid seed number) reply after)
+        → SaysIfKnown start.platform part known (Does start.platform (slots_of start) labels part (own_uuid seed number) reply after)
+    command-in-run number part reply after labels does =
+        subst (λ (slots : ℕ → ℕ). SaysIfKnown start.platform part known (Does start.platform slots labels part (own_uuid seed number) reply after)) (slots-same start.sets session.sets going.dimms going.sizes)
+        (subst (λ (platform : Platform). SaysIfKnown platform part known (Does platform (slots_of session) labels part (own_uuid seed number) reply after)) going.platform
+        (says-on session.platform part (IsCurrent m mid session) known (Does session.platform (slots_of session) labels part (own_uuid seed number) reply after) going.through.current does))
 
-    anyhow-in-run : (number : ℕ) (command : Command) (reply : Reply) (after : State) (labels : Labels)
-        → DoesAnyhow session.platform (slots_of session) labels command (own_uuid seed number) reply after → DoesAnyhow start.platform (slots_of start) labels command (own_uuid seed number) reply after
-    anyhow-in-run number command reply after labels does =
-        subst (λ (slots : ℕ → ℕ). DoesAnyhow start.platform slots labels command (own_uuid seed number) reply after) (slots-same start.sets session.sets going.dimms going.sizes)
-        (subst (λ (platform : Platform). DoesAnyhow platform (slots_of session) labels command (own_uuid seed number) reply after) going.platform does)
+    anyhow-in-run : (number : ℕ) (part : Part) (reply : Reply) (after : State) (labels : Labels)
+        → DoesAnyhow session.platform (slots_of session) labels part (own_uuid seed number) reply after → DoesAnyhow start.platform (slots_of start) labels part (own_uuid seed number) reply after
+    anyhow-in-run number part reply after labels does =
+        subst (λ (slots : ℕ → ℕ). DoesAnyhow start.platform slots labels part (own_uuid seed number) reply after) (slots-same start.sets session.sets going.dimms going.sizes)
+        (subst (λ (platform : Platform). DoesAnyhow platform (slots_of session) labels part (own_uuid seed number) reply after) going.platform does)
 
     pub in-run : (number : ℕ) (line : Result (Option Command) WordFault) (reply : Option Reply) (after : State) → DoesOn (IsCurrent m mid session) session seed number line reply after → DoesLine known run number before.state line reply after
     in-run number (Ok (Some command)) (Some reply) after does = record {
       labels = does.labels;
       stands = ap (λ (platform : Platform). state platform does.labels) (sym going.platform) ∙ does.stands ∙ going.through.state_is;
-      does = command-in-run number command reply after does.labels does.does;
-      anyhow = anyhow-in-run number command reply after does.labels does.anyhow;
+      does = command-in-run number (part_of command) reply after does.labels does.does;
+      anyhow = anyhow-in-run number (part_of command) reply after does.labels does.anyhow;
     }
     in-run number (Ok (Some command)) None after does = does
     in-run number (Ok None) reply after does = (does.0, does.1 ∙ going.through.state_is)

@@ -14,6 +14,8 @@ use Rattle.rig_trait.proofs.WrittenAreas.{get-written}
 use Rattle.byte_ranges.specs.Ranges.{patched}
 use Rattle.index_block.specs.declared.geometry.Geometry.{Geometry}
 use Rattle.cmd_words.specs.declared.commands.Command.{Command}
+use Rattle.cmd_words.specs.declared.parts.Part.{Part}
+use Rattle.cmd_words.specs.Parts.{part_of}
 use Rattle.cmd_words.specs.Lines.{command_in}
 use Rattle.label_area.specs.Fair.{IsFair}
 use Rattle.label_area.specs.Flips.{is_among}
@@ -27,7 +29,7 @@ use Rattle.namespace_core.specs.declared.faults.RunFault.TheVariants.{Area}
 use Rattle.namespace_core.specs.Commands.{is_init, written_by}
 use Rattle.namespace_core.proofs.Standing.{quiet-area}
 use Rattle.view_types.specs.declared.word_fault.WordFault.{WordFault}
-use Rattle.command_runs.specs.Areas.{IsWritten, KeepsAreas, LeaveLabels, LeavesAreas, LeavesLabels, MayInitialise, OnlyTells, changed_by, changed_by_command, changed_by_line, initialised_by, initialised_by_line}
+use Rattle.command_runs.specs.Areas.{IsWritten, KeepsAreas, LeaveLabels, LeavesAreas, LeavesLabels, MayInitialise, OnlyTells, changed_by, changed_by_line, changed_by_part, initialised_by, initialised_by_line}
 
 left-false : (a b : Bool) → (a || b) ≡ false → a ≡ false
 left-false true b is = absurd (let differ : true ≡ false = is in cc)
@@ -65,20 +67,20 @@ module _ (test : ℕ → Bool) (part : List ℕ → List ℕ) where
 
 -- a line that changes no labels names no module whose labels change
 module _ (platform : Platform) where
-  changed-none : (command : Command) → (is_init command ≡ true) ⊎ OnlyTells command → (dimm : ℕ) → is_among (changed_by_command platform command) dimm ≡ false
-  changed-none command (inl init) dimm = ap (λ (b : Bool). is_among (cond {A = List ℕ} b [] (written_by platform command)) dimm) init
-  changed-none command (inr only) dimm = by (is_init command)
+  changed-none : (part : Part) → (is_init part ≡ true) ⊎ OnlyTells part → (dimm : ℕ) → is_among (changed_by_part platform part) dimm ≡ false
+  changed-none part (inl init) dimm = ap (λ (b : Bool). is_among (cond {A = List ℕ} b [] (written_by platform part)) dimm) init
+  changed-none part (inr only) dimm = by (is_init part)
     where
-      unwritten : (b : Bool) → is_among (written_by platform command) dimm ≡ b → is_among (written_by platform command) dimm ≡ false
-      unwritten true is = absurd (quiet-area platform command dimm (only (Err (Area dimm))) is)
+      unwritten : (b : Bool) → is_among (written_by platform part) dimm ≡ b → is_among (written_by platform part) dimm ≡ false
+      unwritten true is = absurd (quiet-area platform part dimm (only (Err (Area dimm))) is)
       unwritten false is = is
 
-      by : (b : Bool) → is_among (cond {A = List ℕ} b [] (written_by platform command)) dimm ≡ false
+      by : (b : Bool) → is_among (cond {A = List ℕ} b [] (written_by platform part)) dimm ≡ false
       by true = refl
-      by false = unwritten (is_among (written_by platform command) dimm) refl
+      by false = unwritten (is_among (written_by platform part) dimm) refl
 
   line-none : (line : Result (Option Command) WordFault) → LeavesLabels line → (dimm : ℕ) → is_among (changed_by_line platform line) dimm ≡ false
-  line-none (Ok (Some command)) fits dimm = changed-none command fits dimm
+  line-none (Ok (Some command)) fits dimm = changed-none (part_of command) fits dimm
   line-none (Ok None) fits dimm = refl
   line-none (Err fault) fits dimm = refl
 

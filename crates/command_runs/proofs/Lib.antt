@@ -5,3 +5,4 @@ pub mod Said
 pub mod Kept
 pub mod Going
 pub mod Ended
+pub mod OneRun

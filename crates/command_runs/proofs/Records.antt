@@ -7,7 +7,7 @@ use Rattle.rig_trait.specs.declared.shown.Shown.{Ghosts}
 use Rattle.rig_trait.specs.Areas.{Areas}
 use Rattle.rig_trait.specs.Frames.{Reads, SayLeaves, SaysOnly}
 use Rattle.rig_trait.specs.Records.{IsSaying}
-use Rattle.rig_trait.proofs.Frames.{reading}
+use Rattle.rig_trait.proofs.Frames.{no_call, reading}
 use Rattle.rig_trait.proofs.Moments.{and_a_call, joined, weakened}
 use Rattle.label_table.specs.Tables.{table}
 use Rattle.module_flips.specs.Stored.{StandsIn, stored_labels}
@@ -16,7 +16,6 @@ use Rattle.region_labels.specs.Modules.{dimm_of, is_of, size_in}
 use Rattle.label_sets.specs.Init.{slots_at, slots_by_size}
 use Rattle.label_sets.specs.Sets.{StoredSets}
 use Rattle.namespace_core.specs.Sessions.{IsCurrent, StoredSession, state_of, stored_slots}
-use Rattle.namespace_core.proofs.Telling.{no_call}
 use Rattle.command_runs.specs.Areas.{WritesNothing}
 use Rattle.command_runs.specs.Stops.{HasTable}
 

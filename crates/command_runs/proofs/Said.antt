@@ -18,13 +18,13 @@ use Rattle.report_json.specs.Texts.{is_one_line, reply_text}
 use Rattle.report_json.proofs.Ends.{ended}
 use Rattle.namespace_core.specs.Sessions.{IsCurrent, StoredSession, state_of}
 use Rattle.view_types.specs.declared.reply.Reply.{Reply}
+use Rattle.view_types.specs.Replies.{is_refusal}
 use Rattle.view_types.specs.declared.word_fault.WordFault.{WordFault}
 use Rattle.command_runs.specs.declared.faults.LineFault.{LineFault}
 use Rattle.command_runs.specs.declared.faults.LineFault.TheVariants.{Area, Memory, Say}
 use Rattle.command_runs.specs.Areas.{KeepsAreas, LeavesAreas, LeavesLabels, changed_by_line, initialised_by_line}
 use Rattle.command_runs.specs.LastWrites.{WritesNoMore}
 use Rattle.command_runs.specs.Replies.{Tells, TellsReply}
-use Rattle.command_runs.specs.Runs.{is_refusal}
 use Rattle.command_runs.specs.Stops.{HasTable}
 use Rattle.command_runs.specs.Turns.{Answers, IsTurned, LeftSaying, LeftUnsaid, SaysAll, SaysFront, Turns}
 use Rattle.command_runs.proofs.Commands.{list-unchanged}

@@ -14,6 +14,8 @@ use Rattle.label_area.specs.Modules.{area_kind}
 use Rattle.label_codec.specs.declared.kind.AreaKind.TheVariants.{Uninit}
 use Rattle.region_map.specs.declared.platform.Platform.{Platform}
 use Rattle.cmd_words.specs.declared.commands.Command.{Command}
+use Rattle.cmd_words.specs.declared.parts.Part.{Part}
+use Rattle.cmd_words.specs.Parts.{part_of}
 use Rattle.cmd_words.specs.Lines.{command_in}
 use Rattle.view_types.specs.declared.word_fault.WordFault.{WordFault}
 use Rattle.view_types.specs.declared.reply.Reply.{Reply}
@@ -21,20 +23,20 @@ use Rattle.namespace_core.specs.declared.faults.RunFault.{RunFault}
 use Rattle.namespace_core.specs.Commands.{has_module, is_init, may_change, written_by}
 
 -- the modules whose labels a command may change
-abbrev pub changed_by_command : Platform → Command → List ℕ
-changed_by_command platform command = if is_init command then [] else written_by platform command
+abbrev pub changed_by_part : Platform → Part → List ℕ
+changed_by_part platform part = if is_init part then [] else written_by platform part
 
 abbrev pub changed_by_line : Platform → Result (Option Command) WordFault → List ℕ
-changed_by_line platform (Ok (Some command)) = changed_by_command platform command
+changed_by_line platform (Ok (Some command)) = changed_by_part platform (part_of command)
 changed_by_line platform (Ok None) = []
 changed_by_line platform (Err fault) = []
 
 -- the modules whose areas a command may initialise: those that it names and the platform has
-abbrev pub initialised_by_command : Platform → Command → List ℕ
-initialised_by_command platform command = if is_init command then written_by platform command else []
+abbrev pub initialised_by_part : Platform → Part → List ℕ
+initialised_by_part platform part = if is_init part then written_by platform part else []
 
 abbrev pub initialised_by_line : Platform → Result (Option Command) WordFault → List ℕ
-initialised_by_line platform (Ok (Some command)) = initialised_by_command platform command
+initialised_by_line platform (Ok (Some command)) = initialised_by_part platform (part_of command)
 initialised_by_line platform (Ok None) = []
 initialised_by_line platform (Err fault) = []
 
@@ -67,12 +69,12 @@ KeepsBytes failed platform lines areas now =
     KeepsAreas failed platform (changed_by platform lines) (initialised_by platform lines) areas now
 
 -- whatever the answer to the command is, it changes nothing
-abbrev pub OnlyTells : Command → Type 0
-OnlyTells command = (result : Result Reply RunFault) → may_change command result ≡ false
+abbrev pub OnlyTells : Part → Type 0
+OnlyTells part = (result : Result Reply RunFault) → may_change part result ≡ false
 
 -- a line that changes no labels: a command that initialises an area or only tells, and one that is no command
 abbrev pub LeavesLabels : Result (Option Command) WordFault → Type 0
-LeavesLabels (Ok (Some command)) = (is_init command ≡ true) ⊎ OnlyTells command
+LeavesLabels (Ok (Some command)) = (is_init (part_of command) ≡ true) ⊎ OnlyTells (part_of command)
 LeavesLabels (Ok None) = Unit {0}
 LeavesLabels (Err fault) = Unit {0}
 

@@ -1,18 +1,19 @@
 -- Runs: what the lines of a list do to a state, one after the other, and the replies to them.
-use Rattle.std.specs.Prelude.{◌≡◌, ℕ, zero, suc, ◌+◌, ◌||◌, Bool, true, false, List, [], ◌++◌, Option, Some, None}
+use Rattle.std.specs.Prelude.{◌≡◌, ℕ, zero, suc, ◌+◌, ◌||◌, Bool, false, List, [], ◌++◌, Option, Some, None}
 use Rattle.std.specs.Prelude.{Result, Ok, Err, slice_get}
 use Rattle.view_types.specs.declared.refusal.Refusal.TheVariants.{Words}
 use Rattle.view_types.specs.declared.reply.Reply.{Reply}
 use Rattle.view_types.specs.declared.reply.Reply.TheVariants.{Refused}
+use Rattle.view_types.specs.Replies.{is_change, is_refusal}
 use Rattle.view_types.specs.declared.word_fault.WordFault.{WordFault}
 use Rattle.label_codec.specs.ModuleLabels.{Labels}
 use Rattle.region_map.specs.declared.platform.Platform.{Platform}
 use Rattle.label_table.specs.Tables.{State, state}
 use Rattle.cmd_words.specs.declared.commands.Command.{Command}
+use Rattle.cmd_words.specs.Parts.{part_of}
 use Rattle.cmd_words.specs.Lines.{command_in}
 use Rattle.report_json.specs.Texts.{reply_text}
-use Rattle.namespace_core.specs.Commands.{Does, SaysIfKnown, is_change}
-use Rattle.namespace_core.specs.Found.{DoesAnyhow}
+use Rattle.namespace_core.specs.Commands.{Does, DoesAnyhow, SaysIfKnown}
 use Rattle.command_runs.specs.Uuids.{own_uuid}
 
 -- A run: its platform, how many slots the area of each module has room for, the seed of new uuids, the state that it
@@ -34,10 +35,6 @@ pub record Progress : Type 0 where
 abbrev pub at_start : Run → Progress
 at_start run = record { said = []; refused = false; changed = false; state = run.start }
 
-abbrev pub is_refusal : Reply → Bool
-is_refusal (Refused refusal) = true
-is_refusal _ = false
-
 -- a blank line and a comment have no reply
 abbrev pub text_if : Option Reply → List ℕ
 text_if None = []
@@ -57,10 +54,10 @@ pub record DoesCommand (known : Type 0) (run : Run) (number : ℕ) (before : Sta
     (after : State) : Type 0 where
   pub labels : Labels
   pub stands : state run.platform labels ≡ before
-  pub does : SaysIfKnown run.platform command known
-      (Does run.platform run.slots labels command (own_uuid run.seed number) reply after)
+  pub does : SaysIfKnown run.platform (part_of command) known
+      (Does run.platform run.slots labels (part_of command) (own_uuid run.seed number) reply after)
   -- whatever the areas hold
-  pub anyhow : DoesAnyhow run.platform run.slots labels command (own_uuid run.seed number) reply after
+  pub anyhow : DoesAnyhow run.platform run.slots labels (part_of command) (own_uuid run.seed number) reply after
 
 -- A line with a fault is refused; a blank line and a comment have no reply. Neither changes anything.
 abbrev pub DoesLine : Type 0 → Run → ℕ → State → Result (Option Command) WordFault → Option Reply → State → Type 0

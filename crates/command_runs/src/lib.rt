@@ -2,6 +2,7 @@
 #![tactic(auto)]
 
 mod faults;
+mod laws;
 mod lines;
 mod replies;
 mod runs;
@@ -9,6 +10,7 @@ mod turns;
 mod uuids;
 
 pub use faults::LineFault;
+pub use laws::one_run;
 pub use lines::lines_of;
 pub use replies::{is_refused, say_reply};
 pub use runs::run_lines;

@@ -2,7 +2,7 @@
 
 ghost use Rattle.std.specs.Prelude.{◌≡◌};
 ghost use Rattle.command_runs.specs.Replies.{TellsReply, TellsText};
-ghost use Rattle.command_runs.specs.Runs.{is_refusal};
+ghost use Rattle.view_types.specs.Replies.{is_refusal};
 
 use crate::faults::LineFault;
 use report_json::{line_of, reply_text};
@@ -38,5 +38,5 @@ fn say<R: Rig>(rig: &mut R, text: &[u8]) -> Result<(), LineFault>
 pub fn is_refused(reply: &Reply) -> bool
     ensures { result ≡ is_refusal reply.now }
 {
-    matches!(reply, Reply::Refused(_))
+    reply.is_refusal()
 }

@@ -31,8 +31,8 @@ use Rattle.label_sets.specs.Sets.{StoredSets, labels_in, platform_in}
 use Rattle.label_sets.specs.Staging.{OfRegion}
 use Rattle.label_sets.specs.Views.{spare_if_ready}
 use Rattle.recovery.specs.Recovery.{first_full, pending_count, unhealed_at}
-use Rattle.table_steps.specs.declared.change.Change.TheVariants.{Create}
-use Rattle.table_steps.specs.declared.change.NewNamespace.{NewNamespace}
+use Rattle.cmd_words.specs.declared.parts.Change.TheVariants.{Create}
+use Rattle.table_steps.specs.declared.new_namespace.NewNamespace.{NewNamespace}
 use Rattle.table_steps.specs.Create.{AreFreeOf, create_refusals, made, part_length}
 use Rattle.namespace_passes.specs.Staged.{new_space}
 use Rattle.table_steps.specs.Refusals.{any_pending, first_below, first_of, unhealed_in}

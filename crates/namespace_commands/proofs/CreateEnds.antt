@@ -12,12 +12,13 @@ use Rattle.region_map.specs.Platforms.{region_at}
 use Rattle.label_table.specs.Tables.{State, state}
 use Rattle.label_table.proofs.ListTests.{eq_true, find-some}
 use Rattle.label_sets.specs.Sets.{StoredSets, labels_in}
-use Rattle.table_steps.specs.declared.change.NewNamespace.{NewNamespace}
+use Rattle.table_steps.specs.declared.new_namespace.NewNamespace.{NewNamespace}
 use Rattle.table_steps.specs.Changes.{IsDoneBy}
 use Rattle.table_steps.specs.Create.{Creates, IsCreated}
 use Rattle.namespace_commands.specs.declared.creation.ChangeFault.{ChangeFault}
 use Rattle.namespace_commands.specs.declared.creation.ChangeFault.TheVariants as faults
-use Rattle.namespace_commands.specs.Create.{IsCreateRefusal, WhereMemory, WhereRefused}
+use Rattle.view_types.specs.Replies.{WhereRefused}
+use Rattle.namespace_commands.specs.Create.{IsCreateRefusal, WhereMemory}
 use Rattle.namespace_commands.specs.Lists.{IsStateOf}
 use Rattle.namespace_commands.proofs.AcceptedCreates.{HasFree, has-free, some-free}
 use Rattle.namespace_commands.proofs.Refused.{no-region}

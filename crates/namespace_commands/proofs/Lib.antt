@@ -21,3 +21,7 @@ pub mod ChangeEnds
 pub mod ReleaseEnds
 pub mod ChangePasses
 pub mod OneTranslation
+pub mod InitEnds
+pub mod EachChange
+pub mod OneHeld
+pub mod OneShown

@@ -6,6 +6,8 @@ use Rattle.view_types.specs.declared.refusal.Refusal.{Refusal}
 use Rattle.view_types.specs.declared.refusal.Refusal.TheVariants.{NoTranslation, Unusable}
 use Rattle.view_types.specs.declared.reply.Reply.{Reply}
 use Rattle.view_types.specs.declared.reply.Reply.TheVariants.{Module, Runs, Spa}
+use Rattle.cmd_words.specs.declared.parts.Translation.{Translation}
+use Rattle.cmd_words.specs.declared.parts.Translation.TheVariants as translations
 use Rattle.region_map.specs.declared.platform.Platform.{Platform}
 use Rattle.region_map.specs.declared.platform.Region.{Region}
 use Rattle.region_map.specs.Platforms.{IsSound, region_at}
@@ -20,7 +22,7 @@ use Rattle.spa_translate.proofs.OneRuns.{runs-one}
 use Rattle.spa_translate.proofs.OneToOne.{one_to_one}
 use Rattle.spa_translate.specs.Pairs.{IsPair}
 use Rattle.table_steps.specs.Refusals.{IsReplyBy, first_of, unknown_region, unusable}
-use Rattle.namespace_commands.specs.Translations.{AreRunsOf, AreToRuns, IsModuleOf, IsSpaOf, IsToModule, IsToSpa, no_translation, not_in_region, outside, part_outside, range_outside, untranslated}
+use Rattle.namespace_commands.specs.Translations.{AreRunsOf, AreToRuns, IsModuleOf, IsSpaOf, IsToModule, IsToSpa, IsTranslated, no_translation, not_in_region, outside, part_outside, range_outside, untranslated}
 
 reply-one : (accepted : Reply → Type 0) (o : Option Refusal) → (o ≡ None → (r t : Reply) → accepted r → accepted t → r ≡ t) → (r t : Reply) → IsReplyBy o accepted r → IsReplyBy o accepted t → r ≡ t
 reply-one accepted (Some refusal) one r t a b = a ∙ sym b
@@ -77,3 +79,8 @@ module _ (P : Platform) (index : ℕ) where
             let other : IsPair (woven_of P.tables c.region) d.spa dimm dpa = subst (λ (q : Region). IsPair (woven_of P.tables q) d.spa dimm dpa) regions d.pair in
             let same = (woven-one (not_in_region P index dimm ∷ part_outside P index dimm dpa ∷ []) c.region c.found none).one_address c.spa d.spa dimm dpa c.pair other in
             c.reply_is ∙ ap Spa same ∙ sym d.reply_is
+
+pub translation-one : (P : Platform) → IsSound P → (translation : Translation) (r t : Reply) → IsTranslated P translation r → IsTranslated P translation t → r ≡ t
+translation-one P sound (translations.Module index spa) r t a b = module-reply-one P index sound spa r t a b
+translation-one P sound (translations.Spa index dimm dpa) r t a b = spa-reply-one P index sound dimm dpa r t a b
+translation-one P sound (translations.Runs index spa len) r t a b = runs-reply-one P index spa len r t a b

@@ -23,7 +23,7 @@ use Rattle.label_sets.specs.Sets.{StoredSets, labels_in, state_in}
 use Rattle.namespace_commands.specs.declared.creation.ChangeFault.TheVariants.{Area, Memory}
 use Rattle.namespace_commands.specs.Changes.{IsBeforeOrBehind}
 use Rattle.namespace_commands.specs.Commands.{IsChange, IsPassOf}
-use Rattle.namespace_commands.specs.Create.{WhereRefused}
+use Rattle.view_types.specs.Replies.{WhereRefused}
 use Rattle.namespace_commands.proofs.JoinedSteps.{cause-behind, joined-steps, left-fits, weaker-step}
 
 module _ {R : Type 0} (m : Ghosts R) (hs : List ℕ) where

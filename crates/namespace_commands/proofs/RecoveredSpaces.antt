@@ -32,7 +32,7 @@ use Rattle.label_table.proofs.SoundPlatforms.{sound-disjoint}
 use Rattle.label_sets.proofs.Platforms.{known-members}
 use Rattle.label_sets.proofs.Stageable.{region-listed}
 use Rattle.recovery.specs.Recovery.{IsRecovered}
-use Rattle.table_steps.specs.declared.change.NewNamespace.{NewNamespace}
+use Rattle.table_steps.specs.declared.new_namespace.NewNamespace.{NewNamespace}
 use Rattle.table_steps.specs.Create.{Creates, IsCreated, created, keeps_uuid, part_length, uuid_in_use, with_made}
 use Rattle.table_steps.proofs.Fresh.{fresh}
 use Rattle.table_steps.proofs.Made.{made-is}

@@ -28,7 +28,7 @@ use Rattle.namespace_commands.specs.Lists.{refusal_by}
 use Rattle.namespace_commands.proofs.Firsts.{or_more}
 use Rattle.namespace_commands.proofs.Unread.{unread-is}
 use Rattle.table_steps.specs.Refusals.{region_not_ready, unknown_region, unusable}
-use Rattle.table_steps.specs.declared.change.NewNamespace.{NewNamespace}
+use Rattle.table_steps.specs.declared.new_namespace.NewNamespace.{NewNamespace}
 use Rattle.table_steps.specs.Create.{AreFreeOf, AreFreeWhere, bad_size_in, is_named, is_unnamed, name_in_use_in, no_space_in, uuid_in_use}
 use Rattle.table_steps.specs.Refusals.{any_pending, first_below, first_of, no_slots_in, not_ready_by, unhealed_in}
 use Rattle.table_steps.proofs.KnownRegions.{known-region}

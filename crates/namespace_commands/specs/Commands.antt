@@ -16,7 +16,8 @@ use Rattle.module_flips.specs.Stored.{StandsIn}
 use Rattle.label_sets.specs.Sets.{StoredSets, labels_in, platform_in, state_in}
 use Rattle.namespace_commands.specs.declared.creation.ChangeFault.{ChangeFault}
 use Rattle.namespace_commands.specs.Changes.{IsBeforeOrBehind}
-use Rattle.namespace_commands.specs.Create.{HasChangeCause, IsStepOf, IsTableOf, WhereMemory, WhereRefused}
+use Rattle.view_types.specs.Replies.{WhereRefused}
+use Rattle.namespace_commands.specs.Create.{HasChangeCause, IsStepOf, IsTableOf, WhereMemory}
 
 -- A command with a step: what it answers, and the state behind it. It writes the areas of these modules alone.
 pub record IsChange {R : Type 0} (modules : List ℕ) (platform : Platform) (does : Reply → State → Type 0) (m : Ghosts R)

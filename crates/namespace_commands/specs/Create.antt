@@ -5,8 +5,6 @@ use Rattle.std.specs.List.{All}
 use Rattle.view_types.specs.declared.extents.Extent.{Extent}
 use Rattle.view_types.specs.declared.namespaces.Namespace.{Namespace}
 use Rattle.view_types.specs.declared.refusal.Refusal.{Refusal}
-use Rattle.view_types.specs.declared.reply.Reply.{Reply}
-use Rattle.view_types.specs.declared.reply.Reply.TheVariants as replies
 use Rattle.view_types.specs.Intervals.{IsFirstFit}
 use Rattle.rig_trait.specs.declared.shown.Shown.{Ghosts}
 use Rattle.rig_trait.specs.Frames.{FailsAt, IsTold, LeavesOnly}
@@ -32,7 +30,7 @@ use Rattle.module_flips.specs.Together.{free_slots}
 use Rattle.namespace_passes.specs.Staged.{new_space}
 use Rattle.label_sets.specs.Sets.{StoredSets, labels_in, platform_in, state_in}
 use Rattle.label_sets.specs.Staging.{IsOpenRange}
-use Rattle.table_steps.specs.declared.change.NewNamespace.{NewNamespace}
+use Rattle.table_steps.specs.declared.new_namespace.NewNamespace.{NewNamespace}
 use Rattle.table_steps.specs.Create.{AreFreeOf, Creates, create_refusals, made, part_length}
 use Rattle.table_steps.specs.Refusals.{first_of}
 use Rattle.namespace_commands.specs.declared.creation.ChangeFault.{ChangeFault}
@@ -61,22 +59,6 @@ pub record IsNewSpace (platform : Platform) (labels : Labels) (asked : NewNamesp
 abbrev pub IsBeforeOrAfter : Platform → Labels → NewNamespace → Labels → Type 0
 IsBeforeOrAfter platform before asked labels =
     IsBeforeOrBehind platform before (Creates platform before asked) labels
-
--- a fact where the reply is a refusal
-abbrev pub WhereRefused : Type 0 → Reply → Type 0
-WhereRefused fact (replies.Refused refusal) = fact
-WhereRefused fact (replies.Initialised dimm slots) = Unit {0}
-WhereRefused fact (replies.Created uuid region offset len size spare) = Unit {0}
-WhereRefused fact (replies.Destroyed uuid) = Unit {0}
-WhereRefused fact (replies.Renamed uuid name) = Unit {0}
-WhereRefused fact (replies.Released count) = Unit {0}
-WhereRefused fact (replies.Namespaces spaces) = Unit {0}
-WhereRefused fact (replies.Regions regions) = Unit {0}
-WhereRefused fact (replies.Free extents most) = Unit {0}
-WhereRefused fact (replies.HeldList held spare) = Unit {0}
-WhereRefused fact (replies.Module dimm dpa) = Unit {0}
-WhereRefused fact (replies.Spa spa) = Unit {0}
-WhereRefused fact (replies.Runs runs) = Unit {0}
 
 -- a fact where no memory was given
 abbrev pub WhereMemory : Type 0 → ChangeFault → Type 0

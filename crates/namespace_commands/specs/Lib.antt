@@ -5,3 +5,5 @@ pub mod Create
 pub mod Keys
 pub mod Releases
 pub mod Commands
+pub mod Initialising
+pub mod EachChange

@@ -14,6 +14,8 @@ use Rattle.view_types.specs.declared.reply.Reply.TheVariants.{Namespaces, Region
 use Rattle.view_types.specs.declared.states.Status.{Status}
 use Rattle.view_types.specs.declared.states.Status.TheVariants as shown
 use Rattle.view_types.specs.declared.views.RegionView.{RegionView}
+use Rattle.cmd_words.specs.declared.parts.Query.{Query}
+use Rattle.cmd_words.specs.declared.parts.Query.TheVariants as queries
 use Rattle.label_codec.specs.ModuleLabels.{Labels}
 use Rattle.region_map.specs.declared.platform.Platform.{Platform}
 use Rattle.region_map.specs.declared.platform.Region.{Region}
@@ -31,8 +33,6 @@ use Rattle.label_sets.specs.Sets.{StoredSets}
 use Rattle.label_sets.specs.Views.{IsRegionView}
 use Rattle.table_steps.specs.Refusals.{IsReplyBy, area_not_ready, first_of, region_not_ready, unknown_dimm}
 use Rattle.table_steps.specs.Refusals.{unknown_region, unusable}
-use Rattle.namespace_commands.specs.declared.lists.Query.{Query}
-use Rattle.namespace_commands.specs.declared.lists.Query.TheVariants as queries
 use Rattle.namespace_commands.specs.declared.refusals.Unanswered.{Unanswered}
 use Rattle.namespace_commands.specs.declared.refusals.Unanswered.TheVariants as unanswereds
 

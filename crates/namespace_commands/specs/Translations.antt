@@ -8,6 +8,8 @@ use Rattle.view_types.specs.declared.refusal.Refusal.TheVariants.{NoTranslation,
 use Rattle.view_types.specs.declared.reply.Reply.{Reply}
 use Rattle.view_types.specs.declared.reply.Reply.TheVariants.{Module, Spa, Runs}
 use Rattle.view_types.specs.declared.translation.Run.{Run}
+use Rattle.cmd_words.specs.declared.parts.Translation.{Translation}
+use Rattle.cmd_words.specs.declared.parts.Translation.TheVariants as translations
 use Rattle.region_map.specs.declared.platform.Region.{Region}
 use Rattle.region_map.specs.declared.platform.Platform.{Platform}
 use Rattle.region_map.specs.Platforms.{region_at}
@@ -109,3 +111,9 @@ abbrev pub AreToRuns : Platform → ℕ → ℕ → ℕ → Reply → Type 0
 AreToRuns platform index spa len reply =
     IsReplyBy (first_of (untranslated platform index (range_outside platform index spa len ∷ [])))
     (AreRunsOf platform index spa len) reply
+
+-- the reply to what is asked of addresses
+abbrev pub IsTranslated : Platform → Translation → Reply → Type 0
+IsTranslated platform (translations.Module index spa) reply = IsToModule platform index spa reply
+IsTranslated platform (translations.Spa index dimm dpa) reply = IsToSpa platform index dimm dpa reply
+IsTranslated platform (translations.Runs index spa len) reply = AreToRuns platform index spa len reply

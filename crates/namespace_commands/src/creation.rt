@@ -15,7 +15,8 @@ ghost use Rattle.recovery.specs.Recovery.{IsRecovered};
 ghost use Rattle.table_steps.specs.Changes.{least_spare};
 ghost use Rattle.table_steps.specs.Create.{Creates, IsCreated};
 ghost use Rattle.namespace_commands.specs.Create.{CanPutIn, HasChangeCause, IsBeforeOrAfter, IsCreateRefusal, IsNewSpace};
-ghost use Rattle.namespace_commands.specs.Create.{IsPutIn, IsStepOf, IsTableOf, IsTableOrWith, WhereMemory, WhereRefused};
+ghost use Rattle.view_types.specs.Replies.{WhereRefused};
+ghost use Rattle.namespace_commands.specs.Create.{IsPutIn, IsStepOf, IsTableOf, IsTableOrWith, WhereMemory};
 ghost use Rattle.namespace_commands.specs.Create.{modules_of};
 ghost use Rattle.namespace_commands.specs.Lists.{IsStateOf};
 

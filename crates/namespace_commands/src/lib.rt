@@ -1,23 +1,23 @@
 //! The commands on a platform: why each is refused, and its reply.
 #![tactic(auto)]
 
+mod changes;
 mod create_refusals;
 mod creation;
 mod destruction;
+mod initialising;
 mod key_refusals;
+mod laws;
 mod lists;
 mod recovering;
 mod refusals;
 mod release_refusals;
 mod releasing;
 mod renaming;
-mod translation_laws;
 mod translations;
 
-pub use creation::{ChangeFault, create};
-pub use destruction::destroy;
-pub use lists::{Query, show};
-pub use releasing::release_held;
-pub use renaming::rename;
-pub use translation_laws::one_translation;
-pub use translations::{to_module, to_runs, to_spa};
+pub use changes::do_change;
+pub use creation::ChangeFault;
+pub use laws::{one_list, one_translation};
+pub use lists::show;
+pub use translations::translate;

@@ -10,23 +10,11 @@ ghost use Rattle.namespace_commands.specs.Lists.{IsUnread, listed_in_view, refus
 ghost use Rattle.namespace_commands.specs.Lists.{spaces_of, spaces_of_all, unread};
 
 use crate::refusals::Unanswered;
+use cmd_words::Query;
 use label_sets::Sets;
 use region_map::{Platform, Region};
 use std::alloc::{AllocError, Global};
 use view_types::{AreaState, List, Listed, Refusal, RegionView, Reply, Status};
-
-/// What is asked of the state.
-#[derive(Clone, Copy, Debug, PartialEq, Eq)]
-pub enum Query {
-    /// The namespaces of a region, or of all regions that are Ready.
-    Spaces { region: Option<u16> },
-    /// All regions.
-    Regions,
-    /// The free extents of a region.
-    Free { region: u16 },
-    /// The held labels of the module with this device handle.
-    Held { dimm: u32 },
-}
 
 /// The reply to what is asked of the state of a platform's modules.
 ///
@@ -167,10 +155,9 @@ fn free_extents(
     ensures same { sets.new ≡ sets.old }
     ensures free { IfOk result (IsFree platform.now (labels_in sets.old) index) }
 {
-    match learned_refusal(alloc, platform, sets, index) {
-        Ok(None) => free_reply(alloc, platform, sets, index),
-        Ok(Some(refusal)) => Ok(Reply::Refused(refusal)),
-        Err(fault) => Err(fault),
+    match learned_refusal(alloc, platform, sets, index)? {
+        None => free_reply(alloc, platform, sets, index),
+        Some(refusal) => Ok(Reply::Refused(refusal)),
     }
 }
 
@@ -245,10 +232,8 @@ pub(crate) fn learned_refusal(
     ensures refusal { IfOk result (λ refusal. refusal
         ≡ first_of (unread platform.now (labels_in sets.old) index)) }
 {
-    match sets.learn_status(alloc, index) {
-        Ok(status) => Ok(refusal_of(status, index)),
-        Err(fault) => Err(fault),
-    }
+    let status = sets.learn_status(alloc, index)?;
+    Ok(refusal_of(status, index))
 }
 
 /// Why nothing is told of the region with this index and status.

@@ -2,24 +2,41 @@
 
 ghost use Rattle.std.specs.Prelude.{IfErr, IfOk};
 ghost use Rattle.region_map.specs.Platforms.{IsSound};
-ghost use Rattle.namespace_commands.specs.Translations.{AreToRuns, IsToModule, IsToSpa, IsUntranslated, IsWoven};
+ghost use Rattle.namespace_commands.specs.Translations.{AreToRuns, IsToModule, IsToSpa, IsTranslated};
+ghost use Rattle.namespace_commands.specs.Translations.{IsUntranslated, IsWoven};
 
 use crate::refusals::Unanswered;
+use cmd_words::Translation;
 use region_map::Platform;
 use spa_translate::{CheckFault, Weave};
 use std::alloc::{AllocError, Global};
 use view_types::{Refusal, Reply};
 
+/// The reply to what is asked of the addresses of a region.
+pub fn translate(
+    alloc: Global,
+    platform: &Platform,
+    translation: Translation,
+) -> Result<Reply, AllocError>
+    requires { IsSound platform.now }
+    ensures { IfOk result (IsTranslated platform.now translation) }
+{
+    match translation {
+        Translation::Module { region, spa } => to_module(alloc, platform, region, spa),
+        Translation::Spa { region, dimm, dpa } => to_spa(alloc, platform, region, dimm, dpa),
+        Translation::Runs {
+            region,
+            spa,
+            length,
+        } => to_runs(alloc, platform, region, spa, length),
+    }
+}
+
 /// The module address (DPA) behind a system physical address (SPA) of a region.
 ///
 /// Refused are, in this order, a region that the platform does not have, one that cannot be used or whose addresses
 /// cannot be translated, and an address outside its range.
-pub fn to_module(
-    alloc: Global,
-    platform: &Platform,
-    region: u16,
-    spa: u64,
-) -> Result<Reply, AllocError>
+fn to_module(alloc: Global, platform: &Platform, region: u16, spa: u64) -> Result<Reply, AllocError>
     requires { IsSound platform.now }
     ensures { IfOk result (IsToModule platform.now region spa) }
 {
@@ -38,7 +55,7 @@ pub fn to_module(
 ///
 /// Refused are, in this order, a region that the platform does not have, one that cannot be used or whose addresses
 /// cannot be translated, a module that is none of its members, and an address outside the member's part.
-pub fn to_spa(
+fn to_spa(
     alloc: Global,
     platform: &Platform,
     region: u16,
@@ -67,7 +84,7 @@ pub fn to_spa(
 ///
 /// Refused are, in this order, a region that the platform does not have, one that cannot be used or whose addresses
 /// cannot be translated, and a range that is empty or does not lie in the region's.
-pub fn to_runs(
+fn to_runs(
     alloc: Global,
     platform: &Platform,
     region: u16,

@@ -1,111 +1,73 @@
 -- The commands that change areas.
-use Rattle.std.proofs.Common.{◌≡◌, inl, inr, ℕ, Bool, eqb, eqb-true, false, true, List, [], ◌∷◌, Option, Some, None, Result, Ok, Err, map, refl, sym, ap, subst, ◌∙◌, ◌||◌}
-use Rattle.std.specs.Prelude.{◌==◌, IfOk, IfErr, OnOk}
-use Rattle.std.specs.List.{All, Contains, list_any}
-use Rattle.std.specs.Option.{option_map_or, unwrap_or}
-use Rattle.std.proofs.lemmas.List.Elements.{All-head, All-tail}
-use Rattle.view_types.specs.declared.refusal.Refusal.{Refusal}
+use Rattle.std.proofs.Common.{◌≡◌, inl, inr, ℕ, false, true, List, ◌∷◌, [], Result, Ok, Err, refl, sym, subst, ◌∙◌}
+use Rattle.std.specs.Prelude.{IfOk, IfErr, OnOk}
 use Rattle.view_types.specs.declared.reply.Reply.{Reply}
+use Rattle.view_types.specs.Replies.{WhereRefused, is_change}
 use Rattle.rig_trait.specs.declared.shown.Shown.{Ghosts}
 use Rattle.rig_trait.specs.Areas.{Areas}
 use Rattle.rig_trait.specs.Frames.{LeavesOnly, Reads}
-use Rattle.rig_trait.specs.Records.{CrashRecord}
-use Rattle.rig_trait.proofs.Moments.{weakened}
-use Rattle.label_area.specs.Flips.{is_among}
+use Rattle.rig_trait.proofs.Frames.{no_call}
 use Rattle.label_codec.specs.ModuleLabels.{Labels}
-use Rattle.region_map.specs.declared.platform.Member.{Member}
 use Rattle.region_map.specs.declared.platform.Platform.{Platform}
-use Rattle.region_map.specs.declared.platform.Region.{Region}
-use Rattle.region_map.specs.Platforms.{IsSound, region_at}
-use Rattle.region_labels.specs.Modules.{dimm_of, size_in}
-use Rattle.region_labels.specs.Regions.{handles}
-use Rattle.module_flips.specs.Stops.{LeftIn, WritesAmong}
-use Rattle.module_flips.specs.Stored.{StandsIn}
-use Rattle.label_table.proofs.ListTests.{eq_same, find-some, list_any-at}
-use Rattle.label_sets.specs.Init.{slots_at}
-use Rattle.label_sets.specs.Sets.{StoredSets, labels_in, state_in}
-use Rattle.label_sets.proofs.Platforms.{known-members}
+use Rattle.module_flips.specs.Stops.{LeftIn}
 use Rattle.label_table.specs.Tables.{State, state}
-use Rattle.table_steps.specs.declared.change.NewNamespace.{NewNamespace}
-use Rattle.table_steps.specs.Changes.{IsDoneBy}
-use Rattle.table_steps.specs.Create.{Creates, IsCreated, create_refusals}
-use Rattle.table_steps.specs.Destroy.{Destroys, IsDestroyed, destroy_refusals}
-use Rattle.table_steps.specs.Refusals.{first_of}
-use Rattle.table_steps.specs.Release.{IsReleased, Releases, release_refusals}
-use Rattle.table_steps.specs.Rename.{IsRenamed, Renames, rename_refusals}
+use Rattle.label_sets.specs.Init.{slots_at}
+use Rattle.label_sets.specs.Sets.{StoredSets, labels_in}
+use Rattle.table_steps.specs.Steps as steps
+use Rattle.table_steps.proofs.OneStep.{does-or}
+use Rattle.cmd_words.specs.declared.parts.Part.TheVariants as parts
+use Rattle.cmd_words.specs.declared.parts.Change.{Change}
+use Rattle.cmd_words.specs.declared.parts.Change.TheVariants.{InitLabels}
 use Rattle.namespace_commands.specs.declared.creation.ChangeFault.{ChangeFault}
 use Rattle.namespace_commands.specs.declared.creation.ChangeFault.TheVariants.{Area, Memory}
+use Rattle.namespace_commands.specs.Commands.{IsChange}
+use Rattle.namespace_commands.specs.Create.{HasChangeCause, WhereMemory}
+use Rattle.namespace_commands.specs.EachChange.{IsChangeDone, written_by}
+use Rattle.namespace_commands.specs.Initialising.{InitialisesAnyhow, InitialisesArea, IsInit, Stand}
 use Rattle.namespace_commands.specs.Lists.{IsStateOf}
 use Rattle.namespace_commands.specs.Releases.{IsAreaOf}
-use Rattle.namespace_commands.specs.Changes.{IsBeforeOrBehind}
-use Rattle.namespace_commands.specs.Commands.{IsChange}
-use Rattle.namespace_commands.specs.Create.{HasChangeCause, WhereMemory, WhereRefused, modules_of}
-use Rattle.namespace_commands.proofs.JoinedSteps.{left-fits}
 use Rattle.namespace_commands.proofs.RecoveredSpaces.{state-there}
-use Rattle.cmd_words.specs.declared.name_keys.NameKey.{NameKey}
-use Rattle.cmd_words.specs.declared.commands.Command.{Command}
-use Rattle.cmd_words.specs.declared.commands.Command.TheVariants as commands
-use Rattle.namespace_core.specs.declared.faults.RunFault.{RunFault}
-use Rattle.namespace_core.specs.Commands.{Does, HasAreas, IsBeforeOrAfter, LeavesArea, SaysIfKnown, is_change, is_init, may_change, result_changes, written_by}
-use Rattle.namespace_core.specs.Done.{IsDone, Stand, run_by}
-use Rattle.namespace_core.proofs.Found.{said-told}
-use Rattle.namespace_core.proofs.Telling.{no_call}
+use Rattle.namespace_core.specs.Commands.{Does, IsBeforeOrAfter, SaysIfKnown, is_init, result_changes}
+use Rattle.namespace_core.specs.Done.{IsDone, run_by}
 use Rattle.namespace_core.specs.Faults.{HasRunCause, IsRunAmong, IsRunAt}
+use Rattle.namespace_core.proofs.Found.{no-bytes, said-told, says-fact}
 
 -- A reply that changes nothing is a refusal.
-pub refused-by : (before : State) (accepted : Reply → State → Type 0) → ((reply : Reply) (after : State) → accepted reply after → is_change reply ≡ true)
-    → (reply : Reply) (after : State) (o : Option Refusal) → IsDoneBy o before accepted reply after → is_change reply ≡ false → (fact : Type 0) → WhereRefused fact reply → fact
-refused-by before accepted changes reply after (Some refusal) is unchanged fact has = subst (WhereRefused fact) is.0 has
-refused-by before accepted changes reply after None is unchanged fact has = absurd (let differ : true ≡ false = sym (changes reply after is) ∙ unchanged in cc)
+abbrev IsQuiet : Reply → Type 1
+IsQuiet reply = is_change reply ≡ false → (fact : Type 0) → WhereRefused fact reply → fact
 
--- A step that is refused without a change.
-abbrev pub RefusesUnchanged : (Reply → State → Type 0) → Type 1
-RefusesUnchanged does = (reply : Reply) (after : State) → does reply after → is_change reply ≡ false → (fact : Type 0) → WhereRefused fact reply → fact
+quiet-step : (P : Platform) (slots : ℕ → ℕ) (L : Labels) (change : Change) (own : List ℕ) (reply : Reply) (after : State) → steps.Does P slots L change own reply after → IsQuiet reply
+quiet-step P slots L change own reply after does unchanged fact has = elim (does-or P L slots change own reply after does) [
+  | inl changes ↦ absurd (let differ : true ≡ false = sym changes ∙ unchanged in cc)
+  | inr (refusal, is, same) ↦ subst (WhereRefused fact) is has
+]
 
-pub change-kept : (does : Reply → State → Type 0) → RefusesUnchanged does → (after : State) (fact : Type 0) (result : Result Reply ChangeFault)
+quiet-init : (P : Platform) (L : Labels) (dimm : ℕ) (slots : ℕ) (own : List ℕ) (reply : Reply) (after : State) → InitialisesAnyhow P L dimm slots reply after → IsQuiet reply
+quiet-init P L dimm slots own reply after (inl does) unchanged fact has = quiet-step P (λ _. slots) L (InitLabels dimm) own reply after does unchanged fact has
+quiet-init P L dimm slots own reply after (inr found) unchanged fact has = subst (WhereRefused fact) found.reply_is has
+
+change-kept : (does : Reply → State → Type 0) (after : State) → ((reply : Reply) → does reply after → IsQuiet reply) → (fact : Type 0) (result : Result Reply ChangeFault)
     → IfOk result (λ reply. does reply after) → IfOk result (WhereRefused fact) → IfErr result (WhereMemory fact) → result_changes (run_by result) ≡ false → fact
-change-kept does refuses after fact (Ok reply) done refused memory unchanged = refuses reply after done unchanged fact refused
-change-kept does refuses after fact (Err (Area dimm)) done refused memory unchanged = absurd (let differ : true ≡ false = unchanged in cc)
-change-kept does refuses after fact (Err Memory) done refused memory unchanged = memory
+change-kept does after quiet fact (Ok reply) done refused memory unchanged = quiet reply done unchanged fact refused
+change-kept does after quiet fact (Err (Area dimm)) done refused memory unchanged = absurd (let differ : true ≡ false = unchanged in cc)
+change-kept does after quiet fact (Err Memory) done refused memory unchanged = memory
 
-pub ok-run : (fact : Reply → Type 0) (result : Result Reply ChangeFault) → IfOk result fact → IfOk (run_by result) fact
+ok-run : (fact : Reply → Type 0) (result : Result Reply ChangeFault) → IfOk result fact → IfOk (run_by result) fact
 ok-run fact (Ok reply) is = is
 ok-run fact (Err fault) is = tt
 
-pub on-run : (fact : Type 0) (result : Result Reply ChangeFault) → OnOk result fact → OnOk (run_by result) fact
+on-run : (fact : Type 0) (result : Result Reply ChangeFault) → OnOk result fact → OnOk (run_by result) fact
 on-run fact (Ok reply) is = is
 on-run fact (Err fault) is = tt
 
-member-known : (ms : List Member) (hs : List ℕ) (dimm : ℕ) → All (λ (m : Member). Contains hs m.handle) ms → is_among (map (λ (m : Member). m.handle) ms) dimm ≡ true → Contains hs dimm
-member-known [] hs dimm all is = absurd (let differ : false ≡ true = is in cc)
-member-known (x ∷ ms) hs dimm all is = by (member-known ms hs dimm (All-tail (λ (m : Member). Contains hs m.handle) x ms all)) (eqb dimm x.handle) refl is
-  where
-    by : (is_among (map (λ (m : Member). m.handle) ms) dimm ≡ true → Contains hs dimm) → (b : Bool) → eqb dimm x.handle ≡ b → (b || is_among (map (λ (m : Member). m.handle) ms) dimm) ≡ true → Contains hs dimm
-    by rest true e t = subst (Contains hs) (sym (eqb-true dimm x.handle e)) (All-head (λ (m : Member). Contains hs m.handle) x ms all)
-    by rest false e t = rest t
+among-run : (P : Platform) (result : Result Reply ChangeFault) → IfErr result (IsAreaOf P) → IfErr (run_by result) (IsRunAmong P.modules)
+among-run P (Ok reply) among = tt
+among-run P (Err (Area dimm)) among = among
+among-run P (Err Memory) among = tt
 
--- a module of a region is one of the platform's
-region-known : (P : Platform) → IsSound P → (index dimm : ℕ) → is_among (modules_of P index) dimm ≡ true → list_any (λ handle. handle == dimm) P.modules ≡ true
-region-known P sound index dimm = by (region_at P index) refl
-  where
-    by : (o : Option Region) → region_at P index ≡ o → is_among (option_map_or handles o []) dimm ≡ true → list_any (λ handle. handle == dimm) P.modules ≡ true
-    by None e is = absurd (let differ : false ≡ true = is in cc)
-    by (Some r) e is =
-        let in_P : Contains P.regions r = (find-some (λ (q : Region). q.index == index) P.regions r e).0 in
-        list_any-at (λ handle. handle == dimm) P.modules dimm (member-known r.members P.modules dimm (known-members P sound r in_P) is) (eq_same dimm dimm refl)
-
--- a command on a region fails at a module of the platform
-pub region-among : {R : Type 0} (m : Ghosts R) (old new : R) (P : Platform) → IsSound P → (index : ℕ) (result : Result Reply ChangeFault) → HasChangeCause (modules_of P index) m old new result
-    → IfErr (run_by result) (IsRunAmong P.modules)
-region-among m old new P sound index (Ok reply) cause = tt
-region-among m old new P sound index (Err (Area dimm)) cause = region-known P sound index dimm cause.1
-region-among m old new P sound index (Err Memory) cause = tt
-
--- one on a module names it
-pub release-among : (P : Platform) (result : Result Reply ChangeFault) → IfErr result (IsAreaOf P) → IfErr (run_by result) (IsRunAmong P.modules)
-release-among P (Ok reply) among = tt
-release-among P (Err (Area dimm)) among = among
-release-among P (Err Memory) among = tt
+area-run : (dimm : ℕ) (areas now : Areas) (result : Result Reply ChangeFault) → InitialisesArea dimm areas now result → InitialisesArea dimm areas now (run_by result)
+area-run dimm areas now (Ok reply) is = record { written = is.written; kept = is.kept }
+area-run dimm areas now (Err fault) is = record { written = tt; kept = is.kept }
 
 module _ {R : Type 0} (m : Ghosts R) (old new : R) (modules : List ℕ) where
   change-cause : (result : Result Reply ChangeFault) → HasChangeCause modules m old new result → HasRunCause m old new (run_by result)
@@ -118,108 +80,69 @@ module _ {R : Type 0} (m : Ghosts R) (old new : R) (modules : List ℕ) where
   change-at (Err (Area dimm)) cause = cause.1
   change-at (Err Memory) cause = tt
 
--- A command that changes areas of these modules by this step.
-pub record IsCommandOf (P : Platform) (slots : ℕ → ℕ) (L : Labels) (command : Command) (own : List ℕ) (modules : List ℕ) (does : Reply → State → Type 0) : Type 1 where
-  pub does_so : (reply : Reply) (after : State) → does reply after → Does P slots L command own reply after
-  pub says : (known fact : Type 0) → fact → SaysIfKnown P command known fact
-  pub quiet : (answer : Result Reply RunFault) → may_change command answer ≡ result_changes answer
-  pub written : written_by P command ≡ modules
-  pub other : is_init command ≡ false
-  pub areas : (areas now : Areas) (answer : Result Reply RunFault) → HasAreas command areas now answer
-  pub refuses : RefusesUnchanged does
+module _ {R : Type 0} (m : Ghosts R) (P : Platform) (sets : StoredSets) (in_P : IsStateOf P sets) (own : List ℕ) (old : R) (now : StoredSets) (new : R) where
+  abbrev slots : ℕ → ℕ
+  slots = slots_at sets
 
-module _ {R : Type 0} (m : Ghosts R) (P : Platform) (sets : StoredSets) (in_P : IsStateOf P sets) (command : Command) (own modules : List ℕ) (does : Reply → State → Type 0)
-    (is : IsCommandOf P (slots_at sets) (labels_in sets) command own modules does) (old : R) (now : StoredSets) (new : R) where
-  fits-on : (L : Labels) → IsBeforeOrBehind P (labels_in sets) does L → IsBeforeOrAfter P (slots_at sets) (labels_in sets) command own L
-  fits-on L (inl same) = inl same
-  fits-on L (inr behind) = inr (record { reply = behind.reply; after = behind.after; does = is.does_so behind.reply behind.after behind.done; table_is = behind.table_is })
+  abbrev L : Labels
+  L = labels_in sets
 
-  change-step : (result : Result Reply ChangeFault) → IsChange modules P does m sets old now new result
-      → IfOk (run_by result) (λ reply. SaysIfKnown P command (Stand m old sets) (Does P (slots_at sets) (labels_in sets) command own reply (state P (labels_in now))))
-  change-step (Ok reply) has =
-      is.says (Stand m old sets) _ (is.does_so reply (state P (labels_in now)) (subst (does reply) (state-there P now (has.regions ∙ in_P.regions) (labels_in now)) has.step))
-  change-step (Err fault) has = tt
+  abbrev after : State
+  after = state P (labels_in now)
 
-  change-left : (result : Result Reply ChangeFault) → IsChange modules P does m sets old now new result → Stand m old sets
-      → LeavesOnly m old new (LeftIn P.modules (m.said old) (IsBeforeOrAfter P (slots_at sets) (labels_in sets) command own))
-  change-left result has stand =
-      subst (λ (hs : List ℕ). LeavesOnly m old new (LeftIn hs (m.said old) (IsBeforeOrAfter P (slots_at sets) (labels_in sets) command own))) in_P.modules
-      (left-fits (map dimm_of sets.modules) (m.said old) (IsBeforeOrBehind P (labels_in sets) does) (IsBeforeOrAfter P (slots_at sets) (labels_in sets) command own) fits-on (has.any_moment stand.0 stand.1))
-
-  pub change-is-done : (result : Result Reply ChangeFault) → IsChange modules P does m sets old now new result → IfErr (run_by result) (IsRunAmong P.modules)
-      → IsDone m P command own sets old now new (run_by result)
-  change-is-done result has among = record {
-    step = change-step result has;
-    anyhow = said-told P (slots_at sets) (labels_in sets) command own (state P (labels_in now)) (Stand m old sets) is.other (run_by result) (change-step result has);
-    stands = λ stand. on-run _ result (has.stands stand.0 stand.1);
-    any_moment = change-left result has;
-    kept = λ quiet. change-kept does is.refuses (state_in now) (now ≡ sets) result has.step has.refused has.memory (sym (is.quiet (run_by result)) ∙ quiet);
-    reads_only = λ quiet. subst (Reads m old) (sym (change-kept does is.refuses (state_in now) (new ≡ old) result has.step has.unwritten has.unwritten_memory (sym (is.quiet (run_by result)) ∙ quiet))) (no_call m old);
-    writes = subst (λ (hs : List ℕ). WritesAmong hs m old new) (sym is.written) has.writes_among;
-    area = λ told. is.areas (m.areas old) (m.areas new) (run_by result);
-    area_left = λ init. absurd (let differ : true ≡ false = sym init ∙ is.other in cc);
-    cause = change-cause m old new modules result has.cause;
-    among = among;
-    at = subst (λ (hs : List ℕ). IfErr (run_by result) (IsRunAt hs)) (sym is.written) (change-at m old new modules result has.cause);
-    reads = λ other. has.reads;
+  init-done : (dimm : ℕ) (result : Result Reply ChangeFault) → IsInit m P dimm sets old now new result → IsDone m P (parts.Change (InitLabels dimm)) own sets old now new (run_by result)
+  init-done dimm result has = record {
+    step = ok-run _ result has.step;
+    anyhow = ok-run _ result has.anyhow;
+    stands = λ stand. on-run _ result (has.stands stand);
+    any_moment = has.any_moment;
+    kept = change-kept (InitialisesAnyhow P L dimm (slots dimm)) after (λ reply. quiet-init P L dimm (slots dimm) own reply after) (now ≡ sets) result has.anyhow has.refused has.memory;
+    reads_only = change-kept (InitialisesAnyhow P L dimm (slots dimm)) after (λ reply. quiet-init P L dimm (slots dimm) own reply after) (Reads m old new) result has.anyhow has.unwritten has.unwritten_memory;
+    writes = has.writes_among;
+    area = λ told. area-run dimm (m.areas old) (m.areas new) result (has.area told);
+    area_left = λ init told. has.area_left told;
+    cause = change-cause m old new (dimm ∷ []) result has.cause;
+    among = among-run P result has.among;
+    at = change-at m old new (dimm ∷ []) result has.cause;
+    reads = λ other. absurd (let differ : true ≡ false = other in cc);
     regions = has.regions;
     dimms = has.dimms;
     sizes = has.sizes;
   }
 
--- The commands.
-module _ (P : Platform) (slots : ℕ → ℕ) (L : Labels) (own : List ℕ) where
-  create-refuses : (a : NewNamespace) → RefusesUnchanged (Creates P L a)
-  create-refuses a reply after does =
-      refused-by (state P L) (IsCreated P L a) (λ reply after done. ap is_change done.reply_is) reply after (first_of (create_refusals P L does.free a)) does.is_done
+  module _ (change : Change) (other : is_init (parts.Change change) ≡ false) where
+    abbrev does : Reply → State → Type 0
+    does = steps.Does P slots L change own
 
-  pub create-change : (region size : ℕ) (name abstraction : List ℕ) (sector : ℕ) (uuid : Option (List ℕ)) → IsCommandOf P slots L (commands.Create region size name abstraction sector uuid) own (modules_of P region) (Creates P L (record {
-    region = region;
-    size = size;
-    name = name;
-    abstraction = abstraction;
-    sector = sector;
-    uuid = unwrap_or uuid own;
-  }))
-  create-change region size name abstraction sector uuid = record {
-    does_so = λ reply after does. does;
-    says = λ known fact is. is;
-    quiet = λ answer. refl;
-    written = refl;
-    other = refl;
-    areas = λ areas now answer. tt;
-    refuses = create-refuses _;
-  }
+    step-there : (result : Result Reply ChangeFault) → IsChange (written_by P change) P does m sets old now new result → IfOk result (λ reply. does reply after)
+    step-there (Ok reply) has = subst (does reply) (state-there P now (has.regions ∙ in_P.regions) (labels_in now)) has.step
+    step-there (Err fault) has = tt
 
-  pub destroy-change : (region : ℕ) (key : NameKey) → IsCommandOf P slots L (commands.Destroy region key) own (modules_of P region) (Destroys P L region key)
-  destroy-change region key = record {
-    does_so = λ reply after does. does;
-    says = λ known fact is. is;
-    quiet = λ answer. refl;
-    written = refl;
-    other = refl;
-    areas = λ areas now answer. tt;
-    refuses = λ reply after does. refused-by (state P L) (IsDestroyed P L region key) (λ reply after done. ap is_change done.reply_is) reply after (first_of (destroy_refusals P L region key)) does;
-  }
+    step-run : (result : Result Reply ChangeFault) → IfOk result (λ reply. does reply after)
+        → IfOk (run_by result) (λ reply. SaysIfKnown P (parts.Change change) (Stand m old sets) (Does P slots L (parts.Change change) own reply after))
+    step-run (Ok reply) step = says-fact P (parts.Change change) (Stand m old sets) (does reply after) step
+    step-run (Err fault) step = tt
 
-  pub rename-change : (region : ℕ) (key : NameKey) (name : List ℕ) → IsCommandOf P slots L (commands.Rename region key name) own (modules_of P region) (Renames P L region key name)
-  rename-change region key name = record {
-    does_so = λ reply after does. does;
-    says = λ known fact is. is;
-    quiet = λ answer. refl;
-    written = refl;
-    other = refl;
-    areas = λ areas now answer. tt;
-    refuses = λ reply after does. refused-by (state P L) (IsRenamed P L region key name) (λ reply after done. ap is_change done.reply_is) reply after (first_of (rename_refusals P L region key name)) does;
-  }
+    change-done : (result : Result Reply ChangeFault) → IsChange (written_by P change) P does m sets old now new result → IfErr result (IsAreaOf P) → IsDone m P (parts.Change change) own sets old now new (run_by result)
+    change-done result has among = record {
+      step = step-run result (step-there result has);
+      anyhow = said-told P slots L (parts.Change change) own after (Stand m old sets) other (run_by result) (step-run result (step-there result has));
+      stands = λ stand. on-run _ result (has.stands stand.0 stand.1);
+      any_moment = λ stand. subst (λ (hs : List ℕ). LeavesOnly m old new (LeftIn hs (m.said old) (IsBeforeOrAfter P slots L (parts.Change change) own))) in_P.modules (has.any_moment stand.0 stand.1);
+      kept = change-kept does after (λ reply. quiet-step P slots L change own reply after) (now ≡ sets) result (step-there result has) has.refused has.memory;
+      reads_only = λ quiet. subst (Reads m old) (sym (change-kept does after (λ reply. quiet-step P slots L change own reply after) (new ≡ old) result (step-there result has) has.unwritten has.unwritten_memory quiet)) (no_call m old);
+      writes = has.writes_among;
+      area = λ told. no-bytes (parts.Change change) other (m.areas old) (m.areas new) (run_by result);
+      area_left = λ init. absurd (let differ : true ≡ false = sym init ∙ other in cc);
+      cause = change-cause m old new (written_by P change) result has.cause;
+      among = among-run P result among;
+      at = change-at m old new (written_by P change) result has.cause;
+      reads = λ quiet. has.reads;
+      regions = has.regions;
+      dimms = has.dimms;
+      sizes = has.sizes;
+    }
 
-  pub release-change : (dimm : ℕ) (uuid : List ℕ) → IsCommandOf P slots L (commands.ReleaseHeld dimm uuid) own (dimm ∷ []) (Releases P L dimm uuid)
-  release-change dimm uuid = record {
-    does_so = λ reply after does. does;
-    says = λ known fact is. is;
-    quiet = λ answer. refl;
-    written = refl;
-    other = refl;
-    areas = λ areas now answer. tt;
-    refuses = λ reply after does. refused-by (state P L) (IsReleased P L dimm uuid) (λ reply after done. ap is_change done.reply_is) reply after (first_of (release_refusals P L dimm uuid)) does;
-  }
+  pub change-is-done : (change : Change) (result : Result Reply ChangeFault) → IsChangeDone m P change own sets old now new result → IfErr result (IsAreaOf P) → IsDone m P (parts.Change change) own sets old now new (run_by result)
+  change-is-done (InitLabels dimm) result has among = init-done dimm result has
+  change-is-done change result has among = change-done change refl result has among

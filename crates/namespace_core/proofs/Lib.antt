@@ -2,6 +2,6 @@ pub mod Found
 pub mod Telling
 pub mod Standing
 pub mod Changing
-pub mod Initialising
 pub mod Success
 pub mod Viewing
+pub mod OneReply

@@ -17,15 +17,14 @@ use Rattle.module_flips.proofs.Stored.{stands-sized}
 use Rattle.label_sets.specs.Init.{slots_at, slots_by_size}
 use Rattle.label_sets.specs.Sets.{StoredSets}
 use Rattle.namespace_commands.specs.Lists.{IsStateOf}
-use Rattle.cmd_words.specs.declared.commands.Command.{Command}
-use Rattle.cmd_words.specs.declared.commands.Command.TheVariants.{InitLabels, Create, Destroy, Rename, ReleaseHeld, ListSpaces, ListRegions, ListFree, ListHeld}
-use Rattle.cmd_words.specs.declared.commands.Command.TheVariants.{ToModule, ToSpa, ToRuns}
+use Rattle.cmd_words.specs.declared.parts.Part.{Part}
+use Rattle.cmd_words.specs.declared.parts.Part.TheVariants.{Change, Query, Translation}
 use Rattle.namespace_core.specs.declared.faults.RunFault.{RunFault}
 use Rattle.namespace_core.specs.declared.faults.RunFault.TheVariants.{Area, Memory, Spent}
 use Rattle.namespace_core.specs.Commands.{may_change, written_by}
 use Rattle.namespace_core.specs.Faults.{IsRunAt, is_area}
 use Rattle.namespace_core.specs.Sessions.{IsCurrent, StoredSession, stored_slots}
-use Rattle.namespace_core.proofs.Telling.{standing}
+use Rattle.namespace_commands.proofs.InitEnds.{standing}
 
 slots-of-size : (stored : Option (List ℕ)) → slots_by_size (option_map length stored) ≡ area.slots_of stored
 slots-of-size None = refl
@@ -57,26 +56,17 @@ current-is m rig P sets spent in_P told all = record {
 }
 
 -- A command at whose area the rig failed may have written.
-pub quiet-area : (P : Platform) (command : Command) (dimm : ℕ) → may_change command (Err (Area dimm)) ≡ false → is_among (written_by P command) dimm ≡ true → ⊥
-quiet-area P (InitLabels other) dimm quiet is = let differ : true ≡ false = quiet in cc
-quiet-area P (Create region size name abstraction sector uuid) dimm quiet is = let differ : true ≡ false = quiet in cc
-quiet-area P (Destroy region key) dimm quiet is = let differ : true ≡ false = quiet in cc
-quiet-area P (Rename region key name) dimm quiet is = let differ : true ≡ false = quiet in cc
-quiet-area P (ReleaseHeld other uuid) dimm quiet is = let differ : true ≡ false = quiet in cc
-quiet-area P (ListSpaces region) dimm quiet is = let differ : false ≡ true = is in cc
-quiet-area P ListRegions dimm quiet is = let differ : false ≡ true = is in cc
-quiet-area P (ListFree region) dimm quiet is = let differ : false ≡ true = is in cc
-quiet-area P (ListHeld other) dimm quiet is = let differ : false ≡ true = is in cc
-quiet-area P (ToModule region spa) dimm quiet is = let differ : false ≡ true = is in cc
-quiet-area P (ToSpa region other dpa) dimm quiet is = let differ : false ≡ true = is in cc
-quiet-area P (ToRuns region spa len) dimm quiet is = let differ : false ≡ true = is in cc
+pub quiet-area : (P : Platform) (part : Part) (dimm : ℕ) → may_change part (Err (Area dimm)) ≡ false → is_among (written_by P part) dimm ≡ true → ⊥
+quiet-area P (Change change) dimm quiet is = let differ : true ≡ false = quiet in cc
+quiet-area P (Query query) dimm quiet is = let differ : false ≡ true = is in cc
+quiet-area P (Translation translation) dimm quiet is = let differ : false ≡ true = is in cc
 
 abbrev pub session-of : Platform → StoredSets → Bool → StoredSession
 session-of P sets spent = record { platform = P; sets = sets; spent = spent }
 
 -- a session is kept where nothing may have changed
-pub kept-session : (P : Platform) (sets now : StoredSets) (command : Command) (fault : RunFault) → may_change command (Err fault) ≡ false → (may_change command (Err fault) ≡ false → now ≡ sets)
-    → IsRunAt (written_by P command) fault → session-of P now (is_area fault) ≡ session-of P sets false
-kept-session P sets now command (Area dimm) quiet kept at = absurd (quiet-area P command dimm quiet at)
-kept-session P sets now command Memory quiet kept at = ap (λ (s : StoredSets). session-of P s false) (kept quiet)
-kept-session P sets now command Spent quiet kept at = ap (λ (s : StoredSets). session-of P s false) (kept quiet)
+pub kept-session : (P : Platform) (sets now : StoredSets) (part : Part) (fault : RunFault) → may_change part (Err fault) ≡ false → (may_change part (Err fault) ≡ false → now ≡ sets)
+    → IsRunAt (written_by P part) fault → session-of P now (is_area fault) ≡ session-of P sets false
+kept-session P sets now part (Area dimm) quiet kept at = absurd (quiet-area P part dimm quiet at)
+kept-session P sets now part Memory quiet kept at = ap (λ (s : StoredSets). session-of P s false) (kept quiet)
+kept-session P sets now part Spent quiet kept at = ap (λ (s : StoredSets). session-of P s false) (kept quiet)

@@ -2,7 +2,7 @@
 use Rattle.std.proofs.Common.{◌≡◌, ◌⊎◌, inl, inr, ℕ, ◌<◌, ◌≤◌, Bool, true, false, cond, List, [], ◌∷◌, Option, Some, None, Result, Ok, Err, find, not, refl, sym, ap, subst, arith, ◌∙◌, ◌||◌}
 use Rattle.std.specs.Prelude.{◌==◌, ◌%◌, IfOk, is_none, nat_lt, if◌then◌else◌}
 use Rattle.std.specs.List.{Contains}
-use Rattle.std.specs.Option.{option_map, option_or, unwrap_or}
+use Rattle.std.specs.Option.{option_map, option_or}
 use Rattle.view_types.specs.declared.extents.Extent.{Extent}
 use Rattle.view_types.specs.declared.refusal.Refusal.{Refusal}
 use Rattle.view_types.specs.declared.refusal.Refusal.TheVariants as refusals
@@ -20,14 +20,14 @@ use Rattle.label_table.specs.Statuses.{RegionReady, RegionStatus, status}
 use Rattle.label_table.specs.Tables.{State, state}
 use Rattle.label_table.proofs.ListTests.{Contains-here, Contains-there, eq_other, eq_same, lt_not}
 use Rattle.label_table.proofs.StatusLaws.{ready-parts}
-use Rattle.table_steps.specs.declared.change.NewNamespace.{NewNamespace}
+use Rattle.table_steps.specs.declared.new_namespace.NewNamespace.{NewNamespace}
 use Rattle.table_steps.specs.Changes.{IsDoneBy}
 use Rattle.table_steps.specs.Create.{AreFreeOf, AreFreeWhere, Creates, IsCreated, bad_size_in, create_refusals, is_named, is_unnamed, keeps_uuid, name_in_use_in, no_space_in, size_unit, uuid_in_use}
 use Rattle.table_steps.specs.Refusals.{any_pending, first_below, first_of, no_slots_in, not_ready_by, refused_if, unhealed_in}
 use Rattle.table_steps.proofs.KnownRegions.{known-region}
-use Rattle.cmd_words.specs.declared.commands.Command.{Command}
-use Rattle.cmd_words.specs.declared.commands.Command.TheVariants.{InitLabels, Create, ListSpaces, ListRegions, ListFree, ListHeld}
-use Rattle.cmd_words.specs.declared.commands.Command.TheVariants.{ToModule, ToSpa, ToRuns}
+use Rattle.cmd_words.specs.declared.parts.Part.{Part}
+use Rattle.cmd_words.specs.declared.parts.Part.TheVariants.{Change}
+use Rattle.cmd_words.specs.declared.parts.Change.TheVariants.{Create}
 use Rattle.namespace_core.specs.Commands.{Does, SaysIfKnown}
 use Rattle.namespace_core.specs.Success.{CanCreate, HasCreated, IsOpenFor}
 
@@ -100,8 +100,8 @@ module _ (P : Platform) (L : Labels) (a : NewNamespace) (is : IsOpenFor P L a) w
   open-created reply after creates = is-created reply after (first_of (create_refusals P L creates.free a)) (unrefused creates.free creates.free_are) creates.is_done
 
 -- a create for which there is room makes its namespace
-pub can-create : {E : Type 0} (P : Platform) (slots : ℕ → ℕ) (L : Labels) (command : Command) (own : List ℕ) (after : State) (known : Type 0) (result : Result Reply E)
-    → IfOk result (λ reply. SaysIfKnown P command known (Does P slots L command own reply after)) → CanCreate P L command own → IfOk result HasCreated
-can-create P slots L (Create region size name abstraction sector uuid) own after known (Ok reply) step can = open-created P L _ can reply after step
-can-create P slots L (Create region size name abstraction sector uuid) own after known (Err fault) step can = tt
+pub can-create : {E : Type 0} (P : Platform) (slots : ℕ → ℕ) (L : Labels) (part : Part) (own : List ℕ) (after : State) (known : Type 0) (result : Result Reply E)
+    → IfOk result (λ reply. SaysIfKnown P part known (Does P slots L part own reply after)) → CanCreate P L part own → IfOk result HasCreated
+can-create P slots L (Change (Create region size name abstraction sector uuid)) own after known (Ok reply) step can = open-created P L _ can reply after step
+can-create P slots L (Change (Create region size name abstraction sector uuid)) own after known (Err fault) step can = tt
 can-create P slots L _ own after known result step can = absurd can

@@ -3,7 +3,6 @@ use Rattle.std.specs.Prelude.{◌≡◌, ℕ, false, true, List, map, IfErr, IfO
 use Rattle.std.specs.List.{All}
 use Rattle.std.specs.declared.alloc.AllocError.{AllocError}
 use Rattle.view_types.specs.declared.reply.Reply.{Reply}
-use Rattle.view_types.specs.declared.reply.Reply.TheVariants as replies
 use Rattle.rig_trait.specs.declared.shown.Shown.{Ghosts}
 use Rattle.rig_trait.specs.Frames.{IsTold, LeavesOnly, Reads}
 use Rattle.region_map.specs.declared.platform.Platform.{Platform}
@@ -11,16 +10,14 @@ use Rattle.label_table.specs.Tables.{state}
 use Rattle.region_labels.specs.Modules.{dimm_of, size_in}
 use Rattle.module_flips.specs.Stops.{LeftIn, WritesAmong}
 use Rattle.module_flips.specs.Stored.{StandsIn}
-use Rattle.label_sets.specs.declared.init.SetInitFault.{SetInitFault}
-use Rattle.label_sets.specs.declared.init.SetInitFault.TheVariants as inits
 use Rattle.label_sets.specs.Init.{slots_at}
 use Rattle.label_sets.specs.Sets.{StoredSets, labels_in}
-use Rattle.cmd_words.specs.declared.commands.Command.{Command}
+use Rattle.cmd_words.specs.declared.parts.Part.{Part}
 use Rattle.namespace_commands.specs.declared.creation.ChangeFault.{ChangeFault}
 use Rattle.namespace_commands.specs.declared.creation.ChangeFault.TheVariants as changes
-use Rattle.namespace_core.specs.Commands.{Does, HasAreas, IsBeforeOrAfter, LeavesArea, SaysIfKnown, is_init, may_change}
-use Rattle.namespace_core.specs.Commands.{written_by}
-use Rattle.namespace_core.specs.Found.{DoesAnyhow, init_refusal}
+use Rattle.namespace_commands.specs.Initialising.{Stand}
+use Rattle.namespace_core.specs.Commands.{Does, DoesAnyhow, HasAreas, IsBeforeOrAfter, LeavesArea, SaysIfKnown}
+use Rattle.namespace_core.specs.Commands.{is_init, may_change, written_by}
 use Rattle.namespace_core.specs.Faults.{HasRunCause, IsRunAmong, IsRunAt, fault_by}
 use Rattle.namespace_core.specs.declared.faults.RunFault.{RunFault}
 
@@ -29,29 +26,26 @@ abbrev pub run_by : Result Reply ChangeFault → Result Reply RunFault
 run_by (Ok reply) = Ok reply
 run_by (Err fault) = Err (fault_by fault)
 
-abbrev pub Stand : {R : Type 0} → Ghosts R → R → StoredSets → Type 0
-Stand m rig sets = IsTold m rig × All (StandsIn (m.areas rig)) sets.modules
-
 -- a command was done, with this answer
-pub record IsDone {R : Type 0} (m : Ghosts R) (platform : Platform) (command : Command) (own : List ℕ)
+pub record IsDone {R : Type 0} (m : Ghosts R) (platform : Platform) (part : Part) (own : List ℕ)
     (sets : StoredSets) (old : R) (now : StoredSets) (new : R) (answer : Result Reply RunFault) : Type 0 where
-  pub step : IfOk answer (λ reply. SaysIfKnown platform command (Stand m old sets)
-      (Does platform (slots_at sets) (labels_in sets) command own reply (state platform (labels_in now))))
-  pub anyhow : IfOk answer (λ reply. DoesAnyhow platform (slots_at sets) (labels_in sets) command own reply
+  pub step : IfOk answer (λ reply. SaysIfKnown platform part (Stand m old sets)
+      (Does platform (slots_at sets) (labels_in sets) part own reply (state platform (labels_in now))))
+  pub anyhow : IfOk answer (λ reply. DoesAnyhow platform (slots_at sets) (labels_in sets) part own reply
       (state platform (labels_in now)))
   pub stands : Stand m old sets → OnOk answer (All (StandsIn (m.areas new)) now.modules)
   pub any_moment : Stand m old sets → LeavesOnly m old new (LeftIn platform.modules (m.said old)
-      (IsBeforeOrAfter platform (slots_at sets) (labels_in sets) command own))
-  pub kept : may_change command answer ≡ false → now ≡ sets
-  pub reads_only : may_change command answer ≡ false → Reads m old new
-  pub writes : WritesAmong (written_by platform command) m old new
-  pub area : IsTold m old → HasAreas command (m.areas old) (m.areas new) answer
-  pub area_left : is_init command ≡ true → IsTold m old
-      → LeavesOnly m old new (LeavesArea command (m.areas old) (m.said old))
+      (IsBeforeOrAfter platform (slots_at sets) (labels_in sets) part own))
+  pub kept : may_change part answer ≡ false → now ≡ sets
+  pub reads_only : may_change part answer ≡ false → Reads m old new
+  pub writes : WritesAmong (written_by platform part) m old new
+  pub area : IsTold m old → HasAreas part (m.areas old) (m.areas new) answer
+  pub area_left : is_init part ≡ true → IsTold m old
+      → LeavesOnly m old new (LeavesArea part (m.areas old) (m.said old))
   pub cause : HasRunCause m old new answer
   pub among : IfErr answer (IsRunAmong platform.modules)
-  pub at : IfErr answer (IsRunAt (written_by platform command))
-  pub reads : is_init command ≡ false → m.reads new ≡ m.reads old
+  pub at : IfErr answer (IsRunAt (written_by platform part))
+  pub reads : is_init part ≡ false → m.reads new ≡ m.reads old
   pub regions : now.regions ≡ sets.regions
   pub dimms : map dimm_of now.modules ≡ map dimm_of sets.modules
   pub sizes : map size_in now.modules ≡ map size_in sets.modules
@@ -60,10 +54,3 @@ pub record IsDone {R : Type 0} (m : Ghosts R) (platform : Platform) (command : C
 abbrev pub told_by : Result Reply AllocError → Result Reply ChangeFault
 told_by (Ok reply) = Ok reply
 told_by (Err error) = Err changes.Memory
-
--- what a command is answered that initialises the area of a module
-abbrev pub init_answer : ℕ → Result ℕ SetInitFault → Result Reply ChangeFault
-init_answer dimm (Ok slots) = Ok (replies.Initialised dimm slots)
-init_answer dimm (Err (inits.Refused told)) = Ok (replies.Refused (init_refusal dimm told))
-init_answer dimm (Err (inits.Failed failed)) = Err (changes.Area failed)
-init_answer dimm (Err inits.Memory) = Err changes.Memory

@@ -1,6 +1,5 @@
 pub mod Commands
 pub mod Faults
-pub mod Found
 pub mod Done
 pub mod Sessions
 pub mod Codes

@@ -1,7 +1,6 @@
 -- When a create is accepted.
 use Rattle.std.specs.Prelude.{◌≡◌, ◌⊎◌, ℕ, ◌<◌, ◌≤◌, ◌%◌, true, false, List, Some}
 use Rattle.std.specs.List.{Contains}
-use Rattle.std.specs.Option.{unwrap_or}
 use Rattle.view_types.specs.declared.extents.Extent.{Extent}
 use Rattle.view_types.specs.declared.reply.Reply.{Reply}
 use Rattle.view_types.specs.declared.reply.Reply.TheVariants as replies
@@ -15,10 +14,11 @@ use Rattle.label_table.specs.Fates.{spare}
 use Rattle.label_table.specs.Namespaces.{namespaces}
 use Rattle.label_table.specs.Spaces.{Space}
 use Rattle.label_table.specs.Statuses.{RegionReady, status}
-use Rattle.table_steps.specs.declared.change.NewNamespace.{NewNamespace}
-use Rattle.table_steps.specs.Create.{is_named, is_unnamed, keeps_uuid, size_unit}
-use Rattle.cmd_words.specs.declared.commands.Command.{Command}
-use Rattle.cmd_words.specs.declared.commands.Command.TheVariants.{Create}
+use Rattle.table_steps.specs.declared.new_namespace.NewNamespace.{NewNamespace}
+use Rattle.table_steps.specs.Create.{asked_by, is_named, is_unnamed, keeps_uuid, size_unit}
+use Rattle.cmd_words.specs.declared.parts.Part.{Part}
+use Rattle.cmd_words.specs.declared.parts.Part.TheVariants.{Change}
+use Rattle.cmd_words.specs.declared.parts.Change.TheVariants.{Create}
 
 -- A region has room for a namespace: it is Ready, the size is above 0 and a multiple of 2 MiB of each member, the name
 -- is empty or new in the region, no label that is not dead has the uuid, the free extents are large enough, and each
@@ -36,15 +36,9 @@ pub record IsOpenFor (platform : Platform) (labels : Labels) (asked : NewNamespa
   pub spares : (member : Member) → Contains region.members member → 2 ≤ spare platform labels member.handle
 
 -- the command is a create, and there is room for its namespace
-abbrev pub CanCreate : Platform → Labels → Command → List ℕ → Type 0
-CanCreate platform labels (Create region size name abstraction sector uuid) own = IsOpenFor platform labels (record {
-  region = region;
-  size = size;
-  name = name;
-  abstraction = abstraction;
-  sector = sector;
-  uuid = unwrap_or uuid own;
-})
+abbrev pub CanCreate : Platform → Labels → Part → List ℕ → Type 0
+CanCreate platform labels (Change (Create region size name abstraction sector uuid)) own =
+    IsOpenFor platform labels (asked_by region size name abstraction sector uuid own)
 CanCreate platform labels _ own = ⊥
 
 -- a namespace was made

@@ -4,7 +4,9 @@
 
 mod commands;
 mod faults;
+mod laws;
 mod session;
 
 pub use faults::{OpenFault, RunFault};
+pub use laws::one_reply;
 pub use session::Session;

@@ -7,11 +7,11 @@ ghost use Rattle.region_map.specs.Platforms.{IsSound};
 ghost use Rattle.region_labels.specs.Modules.{dimm_of, size_in};
 ghost use Rattle.module_flips.specs.Flips.{IsSizedIn};
 ghost use Rattle.module_flips.specs.Stops.{LeftIn, WritesAmong};
-ghost use Rattle.namespace_core.specs.Commands.{Does, HasAreas, IsBeforeOrAfter, LeavesArea, SaysIfKnown};
-ghost use Rattle.namespace_core.specs.Commands.{is_init, may_change, written_by};
+ghost use Rattle.cmd_words.specs.Parts.{part_of};
+ghost use Rattle.namespace_core.specs.Commands.{Does, DoesAnyhow, HasAreas, IsBeforeOrAfter, LeavesArea};
+ghost use Rattle.namespace_core.specs.Commands.{SaysIfKnown, is_init, may_change, written_by};
 ghost use Rattle.namespace_core.specs.Faults.{HasOpenCause, HasRunCause, IsOpenAmong, IsRunAmong, IsRunAt, IsSpent};
 ghost use Rattle.namespace_core.specs.Faults.{spent_after};
-ghost use Rattle.namespace_core.specs.Found.{DoesAnyhow};
 ghost use Rattle.namespace_core.specs.Sessions.{IsCurrent, labels_of, opens, slots_of, state_of};
 ghost use Rattle.namespace_core.specs.Success.{CanCreate, HasCreated};
 ghost use Rattle.namespace_core.specs.Views.{IsView};
@@ -93,44 +93,44 @@ impl Session {
         requires sized { IsTold R.Shown rig.old → All (IsSizedIn (R.areas rig.old)) self.old.sets.modules }
 
         // The reply and the state are those of the step.
-        ensures step { IfOk result (λ reply. SaysIfKnown self.old.platform command.now
+        ensures step { IfOk result (λ reply. SaysIfKnown self.old.platform (part_of command.now)
             (IsCurrent R.Shown rig.old self.old)
-            (Does self.old.platform (slots_of self.old) (labels_of self.old) command.now own reply
+            (Does self.old.platform (slots_of self.old) (labels_of self.old) (part_of command.now) own reply
             (state_of self.new))) }
         ensures current { IsCurrent R.Shown rig.old self.old → OnOk result (IsCurrent R.Shown rig.new self.new) }
 
         // Whatever the areas hold, they are those of the step, or `init-labels` is refused for the state in which it
         // finds its area.
         ensures anyhow { IfOk result (λ reply. DoesAnyhow self.old.platform (slots_of self.old) (labels_of self.old)
-            command.now own reply (state_of self.new)) }
+            (part_of command.now) own reply (state_of self.new)) }
 
         // Where none of the conditions on a create fails it is accepted, unless an area fails or memory is refused.
-        ensures creates { CanCreate self.old.platform (labels_of self.old) command.now own → IfOk result HasCreated }
+        ensures creates { CanCreate self.old.platform (labels_of self.old) (part_of command.now) own → IfOk result HasCreated }
 
         // A stop leaves the table before the command, or the one behind it.
         ensures any_moment { IsCurrent R.Shown rig.old self.old
             → LeavesOnly R.Shown rig.old rig.new (LeftIn self.old.platform.modules (R.said rig.old)
-            (IsBeforeOrAfter self.old.platform (slots_of self.old) (labels_of self.old) command.now own)) }
+            (IsBeforeOrAfter self.old.platform (slots_of self.old) (labels_of self.old) (part_of command.now) own)) }
 
         // A refusal, want of memory and the commands that only tell change nothing.
-        ensures kept { may_change command.now result ≡ false → self.new ≡ self.old }
-        ensures reads_only { may_change command.now result ≡ false → Reads R.Shown rig.old rig.new }
+        ensures kept { may_change (part_of command.now) result ≡ false → self.new ≡ self.old }
+        ensures reads_only { may_change (part_of command.now) result ≡ false → Reads R.Shown rig.old rig.new }
 
         // No other module is written, and `init-labels` writes its index blocks alone.
-        ensures writes { WritesAmong (written_by self.old.platform command.now) R.Shown rig.old rig.new }
-        ensures area { IsTold R.Shown rig.old → HasAreas command.now (R.areas rig.old) (R.areas rig.new) result }
-        ensures area_left { is_init command.now ≡ true → IsTold R.Shown rig.old
-            → LeavesOnly R.Shown rig.old rig.new (LeavesArea command.now (R.areas rig.old) (R.said rig.old)) }
+        ensures writes { WritesAmong (written_by self.old.platform (part_of command.now)) R.Shown rig.old rig.new }
+        ensures area { IsTold R.Shown rig.old → HasAreas (part_of command.now) (R.areas rig.old) (R.areas rig.new) result }
+        ensures area_left { is_init (part_of command.now) ≡ true → IsTold R.Shown rig.old
+            → LeavesOnly R.Shown rig.old rig.new (LeavesArea (part_of command.now) (R.areas rig.old) (R.said rig.old)) }
 
         ensures cause { HasRunCause R.Shown rig.old rig.new result }
         ensures among { IfErr result (IsRunAmong self.old.platform.modules) }
-        ensures at { IfErr result (IsRunAt (written_by self.old.platform command.now)) }
+        ensures at { IfErr result (IsRunAt (written_by self.old.platform (part_of command.now))) }
         ensures spent { IsSpent result ↔ (self.old.spent ≡ true) }
         ensures spends { self.new.spent ≡ spent_after self.old.spent result }
         ensures platform { self.new.platform ≡ self.old.platform }
         ensures dimms { map dimm_of self.new.sets.modules ≡ map dimm_of self.old.sets.modules }
         ensures sizes { map size_in self.new.sets.modules ≡ map size_in self.old.sets.modules }
-        ensures reads { is_init command.now ≡ false → R.reads rig.new ≡ R.reads rig.old }
+        ensures reads { is_init (part_of command.now) ≡ false → R.reads rig.new ≡ R.reads rig.old }
     {
         if self.spent {
             return Err(RunFault::Spent);

@@ -3,6 +3,7 @@ use Rattle.std.proofs.Common.{◌≡◌, ◌⊎◌, ℕ, zero, suc, List, ◌++�
 use Rattle.std.specs.Prelude.{MatchBool}
 use Rattle.cmd_words.specs.declared.commands.Command.{Command}
 use Rattle.cmd_words.specs.Lines.{command_in}
+use Rattle.cmd_words.specs.Parts.{part_of}
 use Rattle.label_table.specs.Tables.{State}
 use Rattle.rig_trait.specs.Areas.{Areas}
 use Rattle.rig_trait.specs.Records.{CrashRecord}
@@ -22,7 +23,7 @@ module _ (known now : Type 0) (knows : now → known) where
     line-known : (number : ℕ) (before : State) (line : Result (Option Command) WordFault) (reply : Option Reply) (after : State)
         → DoesLine known run number before line reply after → DoesLine now run number before line reply after
     line-known number before (Ok (Some command)) (Some reply) after does =
-        record { labels = does.labels; stands = does.stands; does = says-on run.platform command known now _ knows does.does; anyhow = does.anyhow }
+        record { labels = does.labels; stands = does.stands; does = says-on run.platform (part_of command) known now _ knows does.does; anyhow = does.anyhow }
     line-known number before (Ok (Some command)) None after does = does
     line-known number before (Ok None) reply after does = does
     line-known number before (Err fault) reply after does = does

@@ -1,9 +1,9 @@
 -- Runs that end before any area is asked for anything.
 use Rattle.std.proofs.Common.{◌≡◌, ℕ, false, Option, Some, None, Err, refl, inl, arith}
 use Rattle.std.specs.Prelude.{IsSome}
+use Rattle.rig_trait.proofs.Frames.{no_call}
 use Rattle.rig_trait.specs.declared.shown.Shown as rigs
 use Rattle.rig_trait.specs.declared.source.Source as sources
-use Rattle.namespace_core.proofs.Telling.{no_call}
 use Rattle.rig_trait.specs.Sources.{Draws, TellsLeft}
 use Rattle.nd_top.specs.declared.faults.ReadFault.{ReadFault}
 use Rattle.nd_top.specs.declared.faults.ReadFault.TheVariants as reads

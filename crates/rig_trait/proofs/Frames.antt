@@ -1,5 +1,5 @@
 -- What calls of a rig, one after the other, change and keep together.
-use Rattle.std.proofs.Common.{◌≡◌, ◌⊎◌, ℕ, ⊎_elim, ◌∙◌, arith}
+use Rattle.std.proofs.Common.{◌≡◌, ◌⊎◌, inl, ℕ, ⊎_elim, refl, ◌∙◌, arith}
 use Rattle.rig_trait.specs.declared.shown.Shown.{Ghosts}
 use Rattle.rig_trait.specs.Frames.{GoesOn, LeavesOnly, Reads, WritesTo}
 use Rattle.rig_trait.specs.Records.{CrashRecord}
@@ -48,3 +48,26 @@ module _ {R : Type 0} {m : Ghosts R} where
   reading {old} P start read =
       let now = λ (c : CrashRecord) (left : m.may_leave old c). let is = m.now_is old c left in start c is.0 is.1 in
       a_call P (m.may_leave old) now read.time now
+
+-- no call was made
+pub no_call : {R : Type 0} (m : Ghosts R) (rig : R) → Reads m rig rig
+no_call m rig = record {
+  areas = refl;
+  said = refl;
+  say_faults = refl;
+  time = record {
+    later = omega arith;
+    nothing_else = λ t c past left. inl left;
+    keeps = λ t c past left. left;
+    left_is = λ c left. left;
+    joins = λ t c past left. inl left;
+  };
+  goes_on = record {
+    tells = refl;
+    tells_records = λ told. told;
+    sizes = λ told q. refl;
+    faults = omega arith;
+    say_faults = omega arith;
+    reads = omega arith;
+  };
+}

@@ -19,7 +19,7 @@ use Rattle.label_table.specs.Fates.{spare}
 use Rattle.label_table.specs.Namespaces.{first_clash, namespaces}
 use Rattle.label_table.specs.Statuses.{RegionReady, first_not_ready, status, status_by, status_by_area, status_by_clash}
 use Rattle.label_table.proofs.ListTests.{eq_true, lt_from, never}
-use Rattle.table_steps.specs.declared.change.NewNamespace.{NewNamespace}
+use Rattle.table_steps.specs.declared.new_namespace.NewNamespace.{NewNamespace}
 use Rattle.table_steps.specs.Create.{bad_size_in, create_refusals, name_in_use_in, no_space_in, size_unit, uuid_in_use}
 use Rattle.table_steps.specs.Refusals.{by_region, first_below, first_of, no_slots_in, not_ready_by}
 use Rattle.table_steps.proofs.Lists.{AreNone, find-none, first-none, map-none, not-false, or-false, unapplied}

@@ -20,7 +20,7 @@ use Rattle.label_table.proofs.ListTests.{eq_same, eq_true, find-some, list_any-a
 use Rattle.label_table.proofs.Listed.{namespaces-with, without_uuid-cases}
 use Rattle.label_table.proofs.Order.{insert_space-cases}
 use Rattle.label_table.proofs.StatusLaws.{ready-with, space-new, space-others, status-elsewhere}
-use Rattle.table_steps.specs.declared.change.NewNamespace.{NewNamespace}
+use Rattle.table_steps.specs.declared.new_namespace.NewNamespace.{NewNamespace}
 use Rattle.table_steps.specs.Create.{Accepts, made, part_length}
 use Rattle.table_steps.specs.Namespaces.{HasDistinctNames}
 use Rattle.table_steps.proofs.Accepted.{IsUnrefused, unrefused}

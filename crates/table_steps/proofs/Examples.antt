@@ -9,7 +9,7 @@ use Rattle.label_codec.specs.ModuleLabels.{Module, Labels}
 use Rattle.region_map.specs.declared.platform.Member.{Member}
 use Rattle.region_map.specs.declared.platform.Region.{Region}
 use Rattle.region_map.specs.declared.platform.Platform.{Platform}
-use Rattle.table_steps.specs.declared.change.NewNamespace.{NewNamespace}
+use Rattle.table_steps.specs.declared.new_namespace.NewNamespace.{NewNamespace}
 
 -- the member with a handle, at a region offset, with so many bytes
 abbrev pub member : ℕ → ℕ → ℕ → Member

@@ -10,7 +10,7 @@ use Rattle.region_map.specs.declared.platform.Platform.{Platform}
 use Rattle.region_map.specs.declared.platform.Region.{Region}
 use Rattle.region_map.specs.Platforms.{region_at}
 use Rattle.label_table.specs.Statuses.{status}
-use Rattle.table_steps.specs.declared.change.NewNamespace.{NewNamespace}
+use Rattle.table_steps.specs.declared.new_namespace.NewNamespace.{NewNamespace}
 use Rattle.table_steps.specs.Create.{bad_size_in, create_refusals, known_region_refusals, name_in_use_in, no_space_in, uuid_in_use}
 use Rattle.table_steps.specs.Destroy.{destroy_refusals, destroy_refusals_in}
 use Rattle.table_steps.specs.Namespaces.{ambiguous_in, read_only_in, unknown_in}

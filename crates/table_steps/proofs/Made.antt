@@ -7,7 +7,7 @@ use Rattle.region_map.specs.declared.platform.Member.{Member}
 use Rattle.region_map.specs.declared.platform.Region.{Region}
 use Rattle.label_table.specs.Tables.{State, with_namespace}
 use Rattle.label_table.proofs.ListTests.{Contains-cases, Contains-here, Contains-none, Contains-there}
-use Rattle.table_steps.specs.declared.change.NewNamespace.{NewNamespace}
+use Rattle.table_steps.specs.declared.new_namespace.NewNamespace.{NewNamespace}
 use Rattle.table_steps.specs.Changes.{least_among, least_spare}
 use Rattle.table_steps.specs.Create.{made, with_made}
 use Rattle.table_steps.proofs.Marks.{marked-is}

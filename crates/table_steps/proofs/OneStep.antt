@@ -1,29 +1,28 @@
 -- A command has one step from a state.
-use Rattle.std.proofs.Common.{◌≡◌, ℕ, ◌≤◌, Bool, List, [], ◌∷◌, Option, Some, None, sym, ap, subst, ◌∙◌, arith}
-use Rattle.std.specs.Option.{unwrap_or}
+use Rattle.std.proofs.Common.{◌≡◌, ◌⊎◌, inl, inr, ℕ, ◌≤◌, Bool, false, true, List, [], ◌∷◌, Option, Some, None, sym, ap, subst, ◌∙◌, arith}
 use Rattle.view_types.specs.declared.extents.Extent.{Extent}
 use Rattle.view_types.specs.Intervals.{IsFirstFit}
 use Rattle.view_types.specs.declared.refusal.Refusal.{Refusal}
 use Rattle.view_types.specs.declared.reply.Reply.{Reply}
-use Rattle.view_types.specs.declared.reply.Reply.TheVariants.{Destroyed, Initialised, Refused, Released, Renamed}
+use Rattle.view_types.specs.declared.reply.Reply.TheVariants.{Destroyed, Refused, Renamed}
+use Rattle.view_types.specs.Replies.{is_change}
 use Rattle.cmd_words.specs.declared.name_keys.NameKey.{NameKey}
-use Rattle.label_codec.specs.ModuleLabels.{Labels, has}
+use Rattle.label_codec.specs.ModuleLabels.{Labels}
 use Rattle.region_map.specs.declared.platform.Platform.{Platform}
 use Rattle.region_map.specs.declared.platform.Region.{Region}
 use Rattle.region_map.specs.Platforms.{region_at}
 use Rattle.label_table.specs.Belonging.{IsDisjoint}
 use Rattle.label_table.specs.Division.{alignment, is_common_free, part_size}
-use Rattle.label_table.specs.Fates.{held_count}
 use Rattle.label_table.specs.Statuses.{AreaNotReady, Clash, RegionReady, RegionStatus, Unusable, status}
 use Rattle.label_table.specs.Spaces.{Space}
 use Rattle.label_table.specs.Tables.{State, state}
 use Rattle.label_table.proofs.ListTests.{some_is}
 use Rattle.view_types.proofs.Maximal.{one_list}
-use Rattle.table_steps.specs.declared.change.Change.{Change}
-use Rattle.table_steps.specs.declared.change.Change.TheVariants.{Create, Destroy, InitLabels, ReleaseHeld, Rename}
-use Rattle.table_steps.specs.declared.change.NewNamespace.{NewNamespace}
+use Rattle.cmd_words.specs.declared.parts.Change.{Change}
+use Rattle.cmd_words.specs.declared.parts.Change.TheVariants.{Create, Destroy, InitLabels, ReleaseHeld, Rename}
+use Rattle.table_steps.specs.declared.new_namespace.NewNamespace.{NewNamespace}
 use Rattle.table_steps.specs.Changes.{IsDoneBy}
-use Rattle.table_steps.specs.Create.{AreFreeOf, AreFreeWhere, Creates, CreatesIn, IsCreated, create_refusals, created, part_length, with_made}
+use Rattle.table_steps.specs.Create.{AreFreeOf, AreFreeWhere, Creates, CreatesIn, IsCreated, asked_by, create_refusals, created, part_length, with_made}
 use Rattle.table_steps.specs.Destroy.{IsDestroyed, destroy_refusals, with_destroyed}
 use Rattle.table_steps.specs.Initialise.{IsInitialised, initialise_refusals}
 use Rattle.table_steps.specs.Namespaces.{fitting}
@@ -103,14 +102,7 @@ module _ (P : Platform) (L : Labels) where
       → Does P slots L change own reply after → Does P slots L change own told now → AreSame reply after told now
   does-one slots (InitLabels dimm) own reply after told now a b =
       done-one (IsInitialised P L dimm (slots dimm)) (state P L) (initialised-one dimm (slots dimm)) (first_of (initialise_refusals P L dimm)) reply after told now a b
-  does-one slots (Create region size name abstraction sector uuid) own reply after told now a b = creates-one (record {
-    region = region;
-    size = size;
-    name = name;
-    abstraction = abstraction;
-    sector = sector;
-    uuid = unwrap_or uuid own;
-  }) reply after told now a b
+  does-one slots (Create region size name abstraction sector uuid) own reply after told now a b = creates-one (asked_by region size name abstraction sector uuid own) reply after told now a b
   does-one slots (Destroy region key) own reply after told now a b =
       done-one (IsDestroyed P L region key) (state P L) (destroyed-one region key) (first_of (destroy_refusals P L region key)) reply after told now a b
   does-one slots (Rename region key name) own reply after told now a b =
@@ -118,36 +110,30 @@ module _ (P : Platform) (L : Labels) where
   does-one slots (ReleaseHeld dimm uuid) own reply after told now a b =
       done-one (IsReleased P L dimm uuid) (state P L) (released-one dimm uuid) (first_of (release_refusals P L dimm uuid)) reply after told now a b
 
-  -- what is done gives no refusal as its reply
-  abbrev IsAnswered : (Reply → State → Type 0) → Type 0
-  IsAnswered accepted = (refusal : Refusal) (after : State) → accepted (Refused refusal) after → ⊥
+  -- the reply is that to a change, or a refusal, and then nothing changes
+  abbrev pub IsDoneOrRefused : Reply → State → Type 0
+  IsDoneOrRefused reply after = (is_change reply ≡ true) ⊎ ((refusal : Refusal) × (reply ≡ Refused refusal) × (after ≡ state P L))
 
-  done-refused : (accepted : Reply → State → Type 0) → IsAnswered accepted → (o : Option Refusal) (refusal : Refusal) (after : State) → IsDoneBy o (state P L) accepted (Refused refusal) after → after ≡ state P L
-  done-refused accepted answered (Some other) refusal after is = is.1
-  done-refused accepted answered None refusal after is = absurd (answered refusal after is)
+  done-or : (accepted : Reply → State → Type 0) → ((reply : Reply) (after : State) → accepted reply after → is_change reply ≡ true)
+      → (o : Option Refusal) (reply : Reply) (after : State) → IsDoneBy o (state P L) accepted reply after → IsDoneOrRefused reply after
+  done-or accepted changes (Some refusal) reply after is = inr (refusal, is.0, is.1)
+  done-or accepted changes None reply after is = inl (changes reply after is)
 
-  -- what is refused changes nothing
-  pub refused-same : (slots : ℕ → ℕ) (change : Change) (own : List ℕ) (refusal : Refusal) (after : State) → Does P slots L change own (Refused refusal) after → after ≡ state P L
-  refused-same slots (InitLabels dimm) own refusal after does =
-      done-refused (IsInitialised P L dimm (slots dimm)) (λ r now is. let e : Refused r ≡ Initialised dimm (slots dimm) = is.0 in absurd cc) (first_of (initialise_refusals P L dimm)) refusal after does
-  refused-same slots (Create region size name abstraction sector uuid) own refusal after does =
-      done-refused (IsCreated P L a) (λ r now is. let e : Refused r ≡ created a is.region is.offset now = is.reply_is in absurd cc) (first_of (create_refusals P L does.free a)) refusal after does.is_done
+  pub does-or : (slots : ℕ → ℕ) (change : Change) (own : List ℕ) (reply : Reply) (after : State) → Does P slots L change own reply after → IsDoneOrRefused reply after
+  does-or slots (InitLabels dimm) own reply after does = done-or (IsInitialised P L dimm (slots dimm)) (λ r now is. ap is_change is.0) (first_of (initialise_refusals P L dimm)) reply after does
+  does-or slots (Create region size name abstraction sector uuid) own reply after does =
+      done-or (IsCreated P L a) (λ r now is. ap is_change is.reply_is) (first_of (create_refusals P L does.free a)) reply after does.is_done
     where
       a : NewNamespace
-      a = record {
-        region = region;
-        size = size;
-        name = name;
-        abstraction = abstraction;
-        sector = sector;
-        uuid = unwrap_or uuid own;
-      }
-  refused-same slots (Destroy region key) own refusal after does =
-      done-refused (IsDestroyed P L region key) (λ r now is. let e : Refused r ≡ Destroyed is.space.uuid = is.reply_is in absurd cc) (first_of (destroy_refusals P L region key)) refusal after does
-  refused-same slots (Rename region key name) own refusal after does =
-      done-refused (IsRenamed P L region key name) (λ r now is. let e : Refused r ≡ Renamed is.space.uuid name = is.reply_is in absurd cc) (first_of (rename_refusals P L region key name)) refusal after does
-  refused-same slots (ReleaseHeld dimm uuid) own refusal after does =
-      done-refused (IsReleased P L dimm uuid) (λ r now is. let e : Refused r ≡ Released (held_count P L dimm (has uuid)) = is.reply_is in absurd cc) (first_of (release_refusals P L dimm uuid)) refusal after does
+      a = asked_by region size name abstraction sector uuid own
+  does-or slots (Destroy region key) own reply after does = done-or (IsDestroyed P L region key) (λ r now is. ap is_change is.reply_is) (first_of (destroy_refusals P L region key)) reply after does
+  does-or slots (Rename region key name) own reply after does = done-or (IsRenamed P L region key name) (λ r now is. ap is_change is.reply_is) (first_of (rename_refusals P L region key name)) reply after does
+  does-or slots (ReleaseHeld dimm uuid) own reply after does = done-or (IsReleased P L dimm uuid) (λ r now is. ap is_change is.reply_is) (first_of (release_refusals P L dimm uuid)) reply after does
+
+  -- what is refused changes nothing
+  refused-same : (refusal : Refusal) (after : State) → IsDoneOrRefused (Refused refusal) after → after ≡ state P L
+  refused-same refusal after (inl change) = absurd (let differ : false ≡ true = change in cc)
+  refused-same refusal after (inr (r, is, same)) = same
 
 pub step-one : (P : Platform) → IsDisjoint P → (slots : ℕ → ℕ) (before : State) (change : Change) (own : List ℕ) (reply : Reply) (after : State) (told : Reply) (now : State)
     → IsStep P slots before change own reply after → IsStep P slots before change own told now → AreSame reply after told now
@@ -156,4 +142,4 @@ step-one P disjoint slots before change own reply after told now a b =
     (does-same P disjoint b.labels a.labels (a.stands ∙ sym b.stands) slots change own told now b.does)
 
 pub step-refused : (P : Platform) (slots : ℕ → ℕ) (before : State) (change : Change) (own : List ℕ) (refusal : Refusal) (after : State) → IsStep P slots before change own (Refused refusal) after → after ≡ before
-step-refused P slots before change own refusal after a = refused-same P a.labels slots change own refusal after a.does ∙ a.stands
+step-refused P slots before change own refusal after a = refused-same P a.labels refusal after (does-or P a.labels slots change own (Refused refusal) after a.does) ∙ a.stands

@@ -12,7 +12,7 @@ use Rattle.region_map.specs.Platforms.{region_at}
 use Rattle.label_table.specs.Division.{AreFreeExtents, alignment, is_common_free, part_size}
 use Rattle.label_table.specs.Statuses.{RegionStatus}
 use Rattle.label_table.proofs.ListTests.{both, never}
-use Rattle.table_steps.specs.declared.change.NewNamespace.{NewNamespace}
+use Rattle.table_steps.specs.declared.new_namespace.NewNamespace.{NewNamespace}
 use Rattle.table_steps.specs.Create.{AreFreeOf, AreFreeWhere, create_refusals, part_length}
 use Rattle.table_steps.specs.Refusals.{first_of}
 use Rattle.table_steps.proofs.Accepted.{IsUnrefused, unrefused}

@@ -3,7 +3,6 @@
 use Rattle.std.proofs.Common.{◌≡◌, ℕ, Bool, List, [], ◌∷◌, Option, Some, None, find, refl, sym, ap, subst, ◌∙◌}
 use Rattle.std.specs.Prelude.{if◌then◌else◌, option_map, ◌==◌}
 use Rattle.std.specs.List.{Contains}
-use Rattle.std.specs.Option.{unwrap_or}
 use Rattle.view_types.specs.declared.extents.Extent.{Extent}
 use Rattle.view_types.specs.Intervals.{AreMaximal, IsFirstFit}
 use Rattle.view_types.specs.declared.refusal.Refusal.TheVariants.{NameInUse, UuidInUse}
@@ -19,11 +18,11 @@ use Rattle.label_table.specs.Spaces.{Space}
 use Rattle.label_table.specs.Statuses.{AreaNotReady, Clash, RegionReady, RegionStatus, Unusable, status}
 use Rattle.label_table.specs.Tables.{State, state, table}
 use Rattle.label_table.proofs.ListTests.{find-some}
-use Rattle.table_steps.specs.declared.change.Change.{Change}
-use Rattle.table_steps.specs.declared.change.Change.TheVariants.{Create, Destroy, InitLabels, ReleaseHeld, Rename}
-use Rattle.table_steps.specs.declared.change.NewNamespace.{NewNamespace}
+use Rattle.cmd_words.specs.declared.parts.Change.{Change}
+use Rattle.cmd_words.specs.declared.parts.Change.TheVariants.{Create, Destroy, InitLabels, ReleaseHeld, Rename}
+use Rattle.table_steps.specs.declared.new_namespace.NewNamespace.{NewNamespace}
 use Rattle.table_steps.specs.Changes.{IsDoneBy}
-use Rattle.table_steps.specs.Create.{AreFreeOf, AreFreeWhere, Creates, IsCreated, bad_size_in, create_refusals, is_named, is_unnamed, keeps_uuid, name_in_use_in, no_space_in, part_length, uuid_in_use, with_made}
+use Rattle.table_steps.specs.Create.{AreFreeOf, AreFreeWhere, Creates, IsCreated, asked_by, bad_size_in, create_refusals, is_named, is_unnamed, keeps_uuid, name_in_use_in, no_space_in, part_length, uuid_in_use, with_made}
 use Rattle.table_steps.specs.Initialise.{Initialises, already_ready, cannot_initialise, initialised}
 use Rattle.table_steps.specs.Refusals.{by_region, first_of, unknown_dimm, unknown_region, unusable}
 use Rattle.table_steps.specs.Steps.{Does}
@@ -98,14 +97,7 @@ module _ (P : Platform) (disjoint : IsDisjoint P) (L M : Labels) (same : state P
 
   pub does-same : (slots : ℕ → ℕ) (change : Change) (own : List ℕ) (reply : Reply) (after : State) → Does P slots L change own reply after → Does P slots M change own reply after
   does-same slots (InitLabels dimm) own reply after does = initialises-same P L M same dimm (slots dimm) reply after does
-  does-same slots (Create region size name abstraction sector uuid) own reply after does = creates-same (record {
-    region = region;
-    size = size;
-    name = name;
-    abstraction = abstraction;
-    sector = sector;
-    uuid = unwrap_or uuid own;
-  }) reply after does
+  does-same slots (Create region size name abstraction sector uuid) own reply after does = creates-same (asked_by region size name abstraction sector uuid own) reply after does
   does-same slots (Destroy region key) own reply after does = destroys-same P disjoint L M same region key reply after does
   does-same slots (Rename region key name) own reply after does = renames-same P disjoint L M same region key name reply after does
   does-same slots (ReleaseHeld dimm uuid) own reply after does = releases-same P disjoint L M same dimm uuid reply after does

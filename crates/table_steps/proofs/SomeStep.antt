@@ -1,7 +1,6 @@
 -- Each command has a step.
 use Rattle.std.proofs.Common.{◌≡◌, ℕ, ◌≤◌, false, ◌&&◌, not, List, [], Option, Some, None, refl}
 use Rattle.std.specs.Prelude.{◌==◌, is_none, nat_lt}
-use Rattle.std.specs.Option.{unwrap_or}
 use Rattle.view_types.specs.declared.extents.Extent.{Extent}
 use Rattle.view_types.specs.declared.refusal.Refusal.{Refusal}
 use Rattle.view_types.specs.declared.refusal.Refusal.TheVariants.{UnknownRegion}
@@ -16,11 +15,11 @@ use Rattle.label_table.specs.Fates.{held_count}
 use Rattle.label_table.specs.Statuses.{AreaNotReady, Clash, RegionReady, RegionStatus, Unusable, status}
 use Rattle.label_table.specs.Tables.{State, state}
 use Rattle.label_table.proofs.ListTests.{lt_not}
-use Rattle.table_steps.specs.declared.change.Change.{Change}
-use Rattle.table_steps.specs.declared.change.Change.TheVariants.{Create, Destroy, InitLabels, ReleaseHeld, Rename}
-use Rattle.table_steps.specs.declared.change.NewNamespace.{NewNamespace}
+use Rattle.cmd_words.specs.declared.parts.Change.{Change}
+use Rattle.cmd_words.specs.declared.parts.Change.TheVariants.{Create, Destroy, InitLabels, ReleaseHeld, Rename}
+use Rattle.table_steps.specs.declared.new_namespace.NewNamespace.{NewNamespace}
 use Rattle.table_steps.specs.Changes.{IsDoneBy}
-use Rattle.table_steps.specs.Create.{AreFreeOf, AreFreeWhere, Creates, IsCreated, create_refusals, created, with_made}
+use Rattle.table_steps.specs.Create.{AreFreeOf, AreFreeWhere, Creates, IsCreated, asked_by, create_refusals, created, with_made}
 use Rattle.table_steps.specs.Destroy.{IsDestroyed, destroy_refusals, with_destroyed}
 use Rattle.table_steps.specs.Initialise.{IsInitialised, initialise_refusals, initialised}
 use Rattle.table_steps.specs.Refusals.{first_of, refused_if}
@@ -71,14 +70,7 @@ module _ (P : Platform) (L : Labels) where
   does-some slots (InitLabels dimm) own =
       done-some (IsInitialised P L dimm (slots dimm)) (state P L) (first_of (initialise_refusals P L dimm))
       (λ e. (Initialised dimm (slots dimm), initialised P dimm (slots dimm) (state P L), (refl, refl)))
-  does-some slots (Create region size name abstraction sector uuid) own = creates-some (record {
-    region = region;
-    size = size;
-    name = name;
-    abstraction = abstraction;
-    sector = sector;
-    uuid = unwrap_or uuid own;
-  })
+  does-some slots (Create region size name abstraction sector uuid) own = creates-some (asked_by region size name abstraction sector uuid own)
   does-some slots (Destroy region key) own = done-some (IsDestroyed P L region key) (state P L) (first_of (destroy_refusals P L region key)) destroys
     where
       destroys : first_of (destroy_refusals P L region key) ≡ None → Some_step (IsDestroyed P L region key)

@@ -1,6 +1,7 @@
 -- `create-namespace`: a namespace on the least aligned range of a region that is common free.
 use Rattle.std.specs.Prelude.{◌≡◌, ℕ, ◌*◌, ◌/◌, ◌%◌, ◌==◌, ◌&&◌, ◌||◌, nat_lt, Bool, false, not, List, [], ◌∷◌}
 use Rattle.std.specs.Prelude.{Option, Some, None, find, if◌then◌else◌, length, option_map}
+use Rattle.std.specs.Option.{unwrap_or}
 use Rattle.std.specs.Str.{bytes_eq}
 use Rattle.view_types.specs.declared.extents.Extent.{Extent}
 use Rattle.view_types.specs.declared.refusal.Refusal.{Refusal}
@@ -21,10 +22,21 @@ use Rattle.label_table.specs.Namespaces.{namespaces}
 use Rattle.label_table.specs.Spaces.{Space}
 use Rattle.label_table.specs.Statuses.{AreaNotReady, Clash, RegionReady, RegionStatus, Unusable, status}
 use Rattle.label_table.specs.Tables.{State, state, with_namespace}
-use Rattle.table_steps.specs.declared.change.NewNamespace.{NewNamespace}
+use Rattle.table_steps.specs.declared.new_namespace.NewNamespace.{NewNamespace}
 use Rattle.table_steps.specs.Changes.{IsDoneBy, least_spare, without_marks}
 use Rattle.table_steps.specs.Refusals.{by_region, first_of, no_slots, no_slots_in, not_ready_by, refused_if}
 use Rattle.table_steps.specs.Refusals.{region_not_ready, unhealed, unhealed_in, unknown_region, unusable}
+
+-- The namespace that a command asks for. It gets its own uuid where the command gives none.
+abbrev pub asked_by : ℕ → ℕ → List ℕ → List ℕ → ℕ → Option (List ℕ) → List ℕ → NewNamespace
+asked_by region size name abstraction sector uuid own = record {
+  region = region;
+  size = size;
+  name = name;
+  abstraction = abstraction;
+  sector = sector;
+  uuid = unwrap_or uuid own;
+}
 
 -- the bytes of all members that sizes are multiples of
 abbrev pub size_unit : Region → ℕ

@@ -1,14 +1,13 @@
 -- The step of a command that may change the state of the label storage areas. Of slots it tells only how many are
 -- spare.
 use Rattle.std.specs.Prelude.{◌≡◌, ℕ, List}
-use Rattle.std.specs.Option.{unwrap_or}
 use Rattle.view_types.specs.declared.reply.Reply.{Reply}
+use Rattle.cmd_words.specs.declared.parts.Change.{Change}
+use Rattle.cmd_words.specs.declared.parts.Change.TheVariants.{Create, Destroy, InitLabels, ReleaseHeld, Rename}
 use Rattle.label_codec.specs.ModuleLabels.{Labels}
 use Rattle.region_map.specs.declared.platform.Platform.{Platform}
 use Rattle.label_table.specs.Tables.{State, state}
-use Rattle.table_steps.specs.declared.change.Change.{Change}
-use Rattle.table_steps.specs.declared.change.Change.TheVariants.{Create, Destroy, InitLabels, ReleaseHeld, Rename}
-use Rattle.table_steps.specs.Create.{Creates}
+use Rattle.table_steps.specs.Create.{Creates, asked_by}
 use Rattle.table_steps.specs.Destroy.{Destroys}
 use Rattle.table_steps.specs.Initialise.{Initialises}
 use Rattle.table_steps.specs.Release.{Releases}
@@ -20,14 +19,7 @@ abbrev pub Does : Platform → (ℕ → ℕ) → Labels → Change → List ℕ 
 Does platform slots labels (InitLabels dimm) own reply after =
     Initialises platform labels dimm (slots dimm) reply after
 Does platform slots labels (Create region size name abstraction sector uuid) own reply after =
-    Creates platform labels (record {
-      region = region;
-      size = size;
-      name = name;
-      abstraction = abstraction;
-      sector = sector;
-      uuid = unwrap_or uuid own;
-    }) reply after
+    Creates platform labels (asked_by region size name abstraction sector uuid own) reply after
 Does platform slots labels (Destroy region key) own reply after = Destroys platform labels region key reply after
 Does platform slots labels (Rename region key name) own reply after =
     Renames platform labels region key name reply after

@@ -24,7 +24,7 @@ pub use list::List;
 pub use mode::Mode;
 pub use namespaces::{Held, Listed, Namespace};
 pub use refusal::Refusal;
-pub use reply::Reply;
+pub use reply::{Reply, ReplyKind};
 pub use rule::Rule;
 pub use states::{AreaState, Status};
 pub use translation::{Run, TranslateFault};

@@ -1,5 +1,8 @@
 //! The answers to commands.
 
+ghost use Rattle.std.specs.Prelude.{◌≡◌};
+ghost use Rattle.view_types.specs.Replies.{is_refusal, kind_of};
+
 use crate::extents::Extent;
 use crate::list::List;
 use crate::namespaces::{Held, Listed};
@@ -64,4 +67,45 @@ pub enum Reply {
     /// The bytes of modules behind a range, by position and then by address.
     Runs(List<Run>),
     Refused(Refusal),
+}
+
+/// What a reply tells of what was done.
+#[derive(Clone, Copy, Debug, PartialEq, Eq)]
+pub enum ReplyKind {
+    /// The command changed the state of the label storage areas.
+    Change,
+    /// The command only tells.
+    Told,
+    /// The command was refused, and changed nothing.
+    Refusal,
+}
+
+impl Reply {
+    /// Of which kind the reply is.
+    pub fn kind(&self) -> ReplyKind
+        ensures { result ≡ kind_of self.now }
+    {
+        match self {
+            Reply::Initialised { .. }
+            | Reply::Created { .. }
+            | Reply::Destroyed { .. }
+            | Reply::Renamed { .. }
+            | Reply::Released { .. } => ReplyKind::Change,
+            Reply::Namespaces(_)
+            | Reply::Regions(_)
+            | Reply::Free { .. }
+            | Reply::HeldList { .. }
+            | Reply::Module { .. }
+            | Reply::Spa { .. }
+            | Reply::Runs(_) => ReplyKind::Told,
+            Reply::Refused(_) => ReplyKind::Refusal,
+        }
+    }
+
+    /// Whether the reply is a refusal.
+    pub fn is_refusal(&self) -> bool
+        ensures { result ≡ is_refusal self.now }
+    {
+        self.kind() == ReplyKind::Refusal
+    }
 }

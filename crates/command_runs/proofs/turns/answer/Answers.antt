@@ -1,6 +1,7 @@
 use Rattle.std.proofs.Common.{◌≡◌, List, ℕ, Ok, Some, Result, Option, sym, subst}
 use Rattle.cmd_words.specs.Lines.{command_in}
 use Rattle.cmd_words.specs.declared.commands.Command.{Command}
+use Rattle.cmd_words.specs.Parts.{part_of}
 use Rattle.view_types.specs.declared.reply.Reply.{Reply}
 use Rattle.view_types.specs.declared.word_fault.WordFault.{WordFault}
 use Rattle.command_runs.specs.declared.faults.LineFault.{LineFault}
@@ -17,7 +18,7 @@ returns-in-Ok-Some g c =
     let now = c.apply.new.self in
     let new = c.apply.new.rig in
     let did = c.apply.ensures in
-    let has : HasApplied m session command c.own_uuid.result old now new c.apply.result = record {
+    let has : HasApplied m session (part_of command) c.own_uuid.result old now new c.apply.result = record {
       step = did.step;
       anyhow = did.anyhow;
       current = did.current;
@@ -40,4 +41,4 @@ returns-in-Ok-Some g c =
     subst (λ (line : Result (Option Command) WordFault). Answers m session c.args.seed c.args.number line old now new c.answer_by.result) (sym is)
     (subst (λ (answer : Result (Option Reply) LineFault). Answers m session c.args.seed c.args.number (Ok (Some command)) old now new answer) (sym c.answer_by.ensures)
     (answers-command m session c.args.seed c.args.number old now new command c.apply.result
-    (subst (λ (own : List ℕ). HasApplied m session command own old now new c.apply.result) c.own_uuid.ensures has) c.requires.unspent))
+    (subst (λ (own : List ℕ). HasApplied m session (part_of command) own old now new c.apply.result) c.own_uuid.ensures has) c.requires.unspent))

@@ -17,7 +17,8 @@ use Rattle.module_flips.proofs.Turned.{no_flip}
 use Rattle.namespace_passes.proofs.Records.{no_write}
 use Rattle.label_sets.specs.Sets.{StoredSets, labels_in, state_in}
 use Rattle.table_steps.specs.Create.{Creates, IsCreated}
-use Rattle.namespace_commands.specs.Create.{HasChangeCause, IsBeforeOrAfter, IsCreateRefusal, IsNewSpace, WhereRefused, modules_of}
+use Rattle.view_types.specs.Replies.{WhereRefused}
+use Rattle.namespace_commands.specs.Create.{HasChangeCause, IsBeforeOrAfter, IsCreateRefusal, IsNewSpace, modules_of}
 use Rattle.namespace_commands.specs.Lists.{IsStateOf}
 use Rattle.namespace_commands.proofs.CreateEnds.{creates-accepted, creates-refused, not-memory, region-there, unrefused-reply}
 use Rattle.namespace_commands.proofs.RecoveredSpaces.{state-there}

@@ -9,9 +9,11 @@ use Rattle.view_types.specs.declared.refusal.Refusal.TheVariants.{UnknownDimm}
 use Rattle.view_types.specs.declared.reply.Reply.TheVariants.{Initialised, Refused}
 use Rattle.view_types.specs.declared.states.AreaState.{AreaState}
 use Rattle.view_types.specs.declared.states.AreaState.TheVariants as states
+use Rattle.view_types.specs.Replies.{WhereRefused, is_change}
 use Rattle.rig_trait.specs.Areas.{Areas}
 use Rattle.rig_trait.specs.Frames.{FailsAt, IsTold, LeavesOnly, Reads, WritesTo}
 use Rattle.rig_trait.specs.declared.shown.Shown.{Ghosts}
+use Rattle.rig_trait.proofs.Frames.{no_call}
 use Rattle.rig_trait.proofs.Moments.{weakened}
 use Rattle.label_codec.specs.declared.kind.AreaKind.{AreaKind}
 use Rattle.label_codec.specs.declared.kind.AreaKind.TheVariants as kind
@@ -29,6 +31,8 @@ use Rattle.region_labels.specs.Modules.{dimm_of, is_of, module_or_missing, size_
 use Rattle.region_labels.specs.Statuses.{unready_state}
 use Rattle.module_flips.specs.Stops.{LeftIn}
 use Rattle.module_flips.specs.Stored.{StandsIn, stored_labels}
+use Rattle.module_flips.proofs.Standing.{stands}
+use Rattle.module_flips.proofs.Turned.{no_flip}
 use Rattle.label_sets.specs.declared.init.SetInitFault.{SetInitFault}
 use Rattle.label_sets.specs.declared.init.SetInitFault.TheVariants as inits
 use Rattle.label_sets.specs.Init.{NamesModule, Refuses, UnlessFailed, initialised_state, is_init_failed, slots_at, state_at}
@@ -37,22 +41,25 @@ use Rattle.label_sets.specs.Views.{area_state}
 use Rattle.table_steps.specs.Changes.{IsDoneBy}
 use Rattle.table_steps.specs.Initialise.{Initialises, IsInitialised, already_ready, cannot_initialise, initialise_refusals, initialised}
 use Rattle.table_steps.specs.Refusals.{first_of, refused_if}
+use Rattle.namespace_commands.specs.declared.creation.ChangeFault.{ChangeFault}
 use Rattle.namespace_commands.specs.Lists.{IsStateOf}
 use Rattle.namespace_commands.proofs.RecoveredSpaces.{state-there}
-use Rattle.cmd_words.specs.declared.commands.Command.TheVariants.{InitLabels}
 use Rattle.label_table.proofs.ListTests.{eq_same}
 use Rattle.namespace_passes.proofs.Records.{no_write, one_write_more}
-use Rattle.namespace_core.specs.Commands.{IsBeforeOrAfter, has_module, is_change, result_changes}
-use Rattle.namespace_core.specs.Faults.{HasRunCause, IsRunAmong, IsRunAt}
-use Rattle.namespace_core.specs.Done.{IsDone, Stand, init_answer, run_by}
-use Rattle.namespace_core.specs.Found.{DoesAnyhow, init_refusal}
 use Rattle.label_area.proofs.Initialising.{looking}
-use Rattle.namespace_core.proofs.Telling.{no_call, standing, still}
+use Rattle.namespace_commands.specs.Changes.{IsBeforeOrBehind}
+use Rattle.namespace_commands.specs.Create.{HasChangeCause, WhereMemory}
+use Rattle.namespace_commands.specs.Releases.{IsAreaOf}
+use Rattle.namespace_commands.specs.Initialising.{InitialisesAnyhow, IsInit, Stand, init_answer, init_refusal}
+
+-- the labels of the areas
+pub standing : (P : Platform) (sets : StoredSets) → IsStateOf P sets → (areas : Areas) → All (StandsIn areas) sets.modules → labels_in sets ≡ stored_labels P.modules areas
+standing P sets in_P areas all = stands sets.modules areas all ∙ ap (λ (hs : List ℕ). stored_labels hs areas) in_P.modules
 
 -- the areas are known where the platform has the module
-standing-if-known : {A : Type 0} (P : Platform) (dimm : ℕ) → has_module P dimm ≡ true → A ⊎ (has_module P dimm ≡ false) → A
-standing-if-known P dimm known (inl stand) = stand
-standing-if-known P dimm known (inr absent) = absurd (let differ : true ≡ false = sym known ∙ absent in cc)
+standing-if-known : {A : Type 0} (b : Bool) → b ≡ true → A ⊎ (b ≡ false) → A
+standing-if-known b known (inl stand) = stand
+standing-if-known b known (inr absent) = absurd (let differ : true ≡ false = sym known ∙ absent in cc)
 
 -- a module of the platform is kept
 found-in : (xs : List LoadedModule) (dimm : ℕ) → list_any (λ handle. handle == dimm) (map dimm_of xs) ≡ true → IsSome (find (is_of dimm) xs)
@@ -134,9 +141,9 @@ module _ (P : Platform) (sets : StoredSets) (in_P : IsStateOf P sets) (dimm : �
     pub kept-kind : state_at sets dimm ≡ Some states.Uninit → (L dimm).kind ≡ kind.Uninit
     kept-kind is = kept-uninit (platform_in sets) L (find (is_of dimm) sets.modules) is
 
-    module _ {R : Type 0} (m : Ghosts R) (own : List ℕ) (old new : R) (stand : Stand m old sets) where
+    module _ {R : Type 0} (m : Ghosts R) (old new : R) (stand : Stand m old sets) where
       abbrev pub fits : Labels → Type 0
-      fits = IsBeforeOrAfter P (slots_at sets) L (InitLabels dimm) own
+      fits = IsBeforeOrBehind P L (Initialises P L dimm (slots_at sets dimm))
 
       same-labels : (c : Areas) → c ≡ m.areas old → fits (stored_labels P.modules c)
       same-labels c same = subst fits (standing P sets in_P (m.areas old) stand.1 ∙ ap (stored_labels P.modules) (sym same)) (inl refl)
@@ -146,7 +153,7 @@ module _ (P : Platform) (sets : StoredSets) (in_P : IsStateOf P sets) (dimm : �
       either-fits uninit M (inr is) = inr (record {
         reply = Initialised dimm (slots_at sets dimm);
         after = initialised P dimm (slots_at sets dimm) (state P L);
-        does = init-done uninit (slots_at sets dimm) refl (initialised P dimm (slots_at sets dimm) (state P L)) refl;
+        done = init-done uninit (slots_at sets dimm) refl (initialised P dimm (slots_at sets dimm) (state P L)) refl;
         table_is = ap (λ (s : State). s.table) (sym (state-there P sets in_P.regions M) ∙ is ∙ after-is);
       })
 
@@ -199,14 +206,14 @@ pub record HasInit {R : Type 0} (m : Ghosts R) (dimm : ℕ) (sets : StoredSets) 
   pub cause : FailsAt dimm m old new (is_init_failed result)
   pub names : IfErr result (NamesModule dimm)
 
-module _ {R : Type 0} (m : Ghosts R) (P : Platform) (sets : StoredSets) (in_P : IsStateOf P sets) (dimm : ℕ) (known : list_any (λ handle. handle == dimm) P.modules ≡ true) (own : List ℕ) (old : R) (now : StoredSets) (new : R) where
+module _ {R : Type 0} (m : Ghosts R) (P : Platform) (sets : StoredSets) (in_P : IsStateOf P sets) (dimm : ℕ) (known : list_any (λ handle. handle == dimm) P.modules ≡ true) (old : R) (now : StoredSets) (new : R) where
   init-step : (result : Result ℕ SetInitFault) → HasInit m dimm sets old now new result
-      → IfOk (run_by (init_answer dimm result)) (λ reply. Stand m old sets ⊎ (has_module P dimm ≡ false) → Initialises P (labels_in sets) dimm (slots_at sets dimm) reply (state P (labels_in now)))
+      → IfOk (init_answer dimm result) (λ reply. Stand m old sets ⊎ (list_any (λ handle. handle == dimm) P.modules ≡ false) → Initialises P (labels_in sets) dimm (slots_at sets dimm) reply (state P (labels_in now)))
   init-step (Ok slots) has = λ either.
       init-done P sets in_P dimm known (kept-kind P sets in_P dimm known has.uninit) slots has.slots (state P (labels_in now))
       (sym (state-there P now (has.regions ∙ in_P.regions) (labels_in now)) ∙ has.state_is ∙ after-is P sets in_P dimm known)
   init-step (Err (inits.Refused told)) has = λ either.
-      let stand : Stand m old sets = standing-if-known P dimm known either in
+      let stand : Stand m old sets = standing-if-known (list_any (λ handle. handle == dimm) P.modules) known either in
       subst (λ (s : StoredSets). Initialises P (labels_in sets) dimm (slots_at sets dimm) (Refused (init_refusal dimm told)) (state P (labels_in s))) (sym has.kept)
       (init-refused P sets in_P dimm known told (has.refused stand) has.not_uninit (slots_at sets dimm))
   init-step (Err (inits.Failed failed)) has = tt
@@ -214,94 +221,104 @@ module _ {R : Type 0} (m : Ghosts R) (P : Platform) (sets : StoredSets) (in_P : 
 
   -- whatever the area holds
   init-anyhow : (result : Result ℕ SetInitFault) → HasInit m dimm sets old now new result
-      → IfOk (run_by (init_answer dimm result)) (λ reply. DoesAnyhow P (slots_at sets) (labels_in sets) (InitLabels dimm) own reply (state P (labels_in now)))
+      → IfOk (init_answer dimm result) (λ reply. InitialisesAnyhow P (labels_in sets) dimm (slots_at sets dimm) reply (state P (labels_in now)))
   init-anyhow (Ok slots) has = inl (init-done P sets in_P dimm known (kept-kind P sets in_P dimm known has.uninit) slots has.slots (state P (labels_in now))
       (sym (state-there P now (has.regions ∙ in_P.regions) (labels_in now)) ∙ has.state_is ∙ after-is P sets in_P dimm known))
   init-anyhow (Err (inits.Refused told)) has = inr (record { known = known; found = told; other = has.not_uninit; reply_is = refl; kept = ap (λ (s : StoredSets). state P (labels_in s)) has.kept })
   init-anyhow (Err (inits.Failed failed)) has = tt
   init-anyhow (Err inits.Memory) has = tt
 
-  init-stands : (result : Result ℕ SetInitFault) → HasInit m dimm sets old now new result → Stand m old sets → OnOk (run_by (init_answer dimm result)) (All (StandsIn (m.areas new)) now.modules)
+  init-stands : (result : Result ℕ SetInitFault) → HasInit m dimm sets old now new result → Stand m old sets → OnOk (init_answer dimm result) (All (StandsIn (m.areas new)) now.modules)
   init-stands (Ok slots) has stand = has.stands stand refl
   init-stands (Err (inits.Refused told)) has stand = has.stands stand refl
   init-stands (Err (inits.Failed failed)) has stand = tt
   init-stands (Err inits.Memory) has stand = tt
 
-  init-kept : (result : Result ℕ SetInitFault) → HasInit m dimm sets old now new result → result_changes (run_by (init_answer dimm result)) ≡ false → now ≡ sets
-  init-kept (Ok slots) has quiet = absurd (let differ : true ≡ false = quiet in cc)
-  init-kept (Err (inits.Refused told)) has quiet = has.kept
-  init-kept (Err (inits.Failed failed)) has quiet = has.kept
-  init-kept (Err inits.Memory) has quiet = has.kept
+  init-kept : (result : Result ℕ SetInitFault) → HasInit m dimm sets old now new result → IfOk (init_answer dimm result) (WhereRefused (now ≡ sets))
+  init-kept (Ok slots) has = tt
+  init-kept (Err (inits.Refused told)) has = has.kept
+  init-kept (Err (inits.Failed failed)) has = tt
+  init-kept (Err inits.Memory) has = tt
 
-  init-read : (result : Result ℕ SetInitFault) → HasInit m dimm sets old now new result → result_changes (run_by (init_answer dimm result)) ≡ false → Reads m old new
-  init-read (Ok slots) has quiet = absurd (let differ : true ≡ false = quiet in cc)
-  init-read (Err (inits.Refused told)) has quiet = has.reads_only
-  init-read (Err (inits.Failed failed)) has quiet = absurd (let differ : true ≡ false = quiet in cc)
-  init-read (Err inits.Memory) has quiet = has.reads_only
+  init-read : (result : Result ℕ SetInitFault) → HasInit m dimm sets old now new result → IfOk (init_answer dimm result) (WhereRefused (Reads m old new))
+  init-read (Ok slots) has = tt
+  init-read (Err (inits.Refused told)) has = has.reads_only
+  init-read (Err (inits.Failed failed)) has = tt
+  init-read (Err inits.Memory) has = tt
+
+  init-memory : (result : Result ℕ SetInitFault) → HasInit m dimm sets old now new result → IfErr (init_answer dimm result) (WhereMemory (now ≡ sets))
+  init-memory (Ok slots) has = tt
+  init-memory (Err (inits.Refused told)) has = tt
+  init-memory (Err (inits.Failed failed)) has = tt
+  init-memory (Err inits.Memory) has = has.kept
+
+  init-read-memory : (result : Result ℕ SetInitFault) → HasInit m dimm sets old now new result → IfErr (init_answer dimm result) (WhereMemory (Reads m old new))
+  init-read-memory (Ok slots) has = tt
+  init-read-memory (Err (inits.Refused told)) has = tt
+  init-read-memory (Err (inits.Failed failed)) has = tt
+  init-read-memory (Err inits.Memory) has = has.reads_only
 
   init-areas : (result : Result ℕ SetInitFault) → HasInit m dimm sets old now new result → IsTold m old
-      → IfOk (run_by (init_answer dimm result)) (λ reply. is_change reply ≡ true → m.areas new ≡ area.initialised dimm (m.areas old))
+      → IfOk (init_answer dimm result) (λ reply. is_change reply ≡ true → m.areas new ≡ area.initialised dimm (m.areas old))
   init-areas (Ok slots) has told = λ change. has.bytes told
   init-areas (Err (inits.Refused why)) has told = λ change. absurd (let differ : false ≡ true = change in cc)
   init-areas (Err (inits.Failed failed)) has told = tt
   init-areas (Err inits.Memory) has told = tt
 
-  init-cause : (result : Result ℕ SetInitFault) → HasInit m dimm sets old now new result → HasRunCause m old new (run_by (init_answer dimm result))
+  init-cause : (result : Result ℕ SetInitFault) → HasInit m dimm sets old now new result → HasChangeCause (dimm ∷ []) m old new (init_answer dimm result)
   init-cause (Ok slots) has = record { faults = has.cause.faults; failed_dimm = has.cause.failed_dimm }
   init-cause (Err (inits.Refused told)) has = record { faults = has.cause.faults; failed_dimm = has.cause.failed_dimm }
-  init-cause (Err (inits.Failed failed)) has = subst (λ h. FailsAt h m old new true) (sym has.names) has.cause
+  init-cause (Err (inits.Failed failed)) has = (
+    subst (λ h. FailsAt h m old new true) (sym has.names) has.cause,
+    subst (λ h. is_among (dimm ∷ []) h ≡ true) (sym has.names) (ap (λ b. b || false) (eq_same dimm dimm refl)),
+  )
   init-cause (Err inits.Memory) has = record { faults = has.cause.faults; failed_dimm = has.cause.failed_dimm }
 
-  init-among : (result : Result ℕ SetInitFault) → HasInit m dimm sets old now new result → IfErr (run_by (init_answer dimm result)) (IsRunAmong P.modules)
+  init-among : (result : Result ℕ SetInitFault) → HasInit m dimm sets old now new result → IfErr (init_answer dimm result) (IsAreaOf P)
   init-among (Ok slots) has = tt
   init-among (Err (inits.Refused told)) has = tt
   init-among (Err (inits.Failed failed)) has = subst (λ h. list_any (λ handle. handle == h) P.modules ≡ true) (sym has.names) known
   init-among (Err inits.Memory) has = tt
 
-  init-at : (result : Result ℕ SetInitFault) → HasInit m dimm sets old now new result → IfErr (run_by (init_answer dimm result)) (IsRunAt (dimm ∷ []))
-  init-at (Ok slots) has = tt
-  init-at (Err (inits.Refused told)) has = tt
-  init-at (Err (inits.Failed failed)) has = subst (λ h. is_among (dimm ∷ []) h ≡ true) (sym has.names) (ap (λ b. b || false) (eq_same dimm dimm refl))
-  init-at (Err inits.Memory) has = tt
-
-  pub init-is-done : (result : Result ℕ SetInitFault) → HasInit m dimm sets old now new result → IsDone m P (InitLabels dimm) own sets old now new (run_by (init_answer dimm result))
+  pub init-is-done : (result : Result ℕ SetInitFault) → HasInit m dimm sets old now new result → IsInit m P dimm sets old now new (init_answer dimm result)
   init-is-done result has = record {
     step = init-step result has;
     anyhow = init-anyhow result has;
-    stands = init-stands result has;
-    any_moment = λ stand. init-left P sets in_P dimm known m own old new stand (has.any_moment stand) (has.area_left stand.0);
-    kept = init-kept result has;
-    reads_only = init-read result has;
-    writes = one_write_more (dimm ∷ []) dimm (ap (λ b. b || false) (eq_same dimm dimm refl)) (no_write {m = m} (dimm ∷ []) old) has.writes_only;
-    area = λ told. record { written = init-areas result has told; kept = has.unwritten told };
-    area_left = λ init told. has.area_left told;
-    cause = init-cause result has;
-    among = init-among result has;
-    at = init-at result has;
-    reads = λ other. absurd (let differ : true ≡ false = other in cc);
+    refused = init-kept result has;
+    unwritten = init-read result has;
+    memory = init-memory result has;
+    unwritten_memory = init-read-memory result has;
     regions = has.regions;
     dimms = has.dimms;
     sizes = has.sizes;
+    stands = init-stands result has;
+    any_moment = λ stand. init-left P sets in_P dimm known m old new stand (has.any_moment stand) (has.area_left stand.0);
+    area = λ told. record { written = init-areas result has told; kept = has.unwritten told };
+    area_left = has.area_left;
+    writes_among = one_write_more (dimm ∷ []) dimm (ap (λ b. b || false) (eq_same dimm dimm refl)) (no_write {m = m} (dimm ∷ []) old) has.writes_only;
+    cause = init-cause result has;
+    among = init-among result has;
   }
 
 -- The platform does not have the module.
-pub unknown-done : {R : Type 0} (m : Ghosts R) (P : Platform) (sets : StoredSets) → IsStateOf P sets → (dimm : ℕ) (own : List ℕ) (rig : R) → list_any (λ handle. handle == dimm) P.modules ≡ false
-    → IsDone m P (InitLabels dimm) own sets rig sets rig (Ok (Refused (UnknownDimm dimm)))
-unknown-done m P sets in_P dimm own rig not_there = record {
+pub unknown-done : {R : Type 0} (m : Ghosts R) (P : Platform) (sets : StoredSets) → IsStateOf P sets → (dimm : ℕ) (rig : R) → list_any (λ handle. handle == dimm) P.modules ≡ false
+    → IsInit m P dimm sets rig sets rig (Ok (Refused (UnknownDimm dimm)))
+unknown-done m P sets in_P dimm rig not_there = record {
   step = λ either. init-unknown P sets in_P dimm (list_any (λ handle. handle == dimm) P.modules) refl not_there (slots_at sets dimm);
   anyhow = inl (init-unknown P sets in_P dimm (list_any (λ handle. handle == dimm) P.modules) refl not_there (slots_at sets dimm));
-  stands = λ stand. stand.1;
-  any_moment = still m P sets in_P (InitLabels dimm) own rig;
-  kept = λ quiet. refl;
-  reads_only = λ quiet. no_call m rig;
-  writes = no_write {m = m} (dimm ∷ []) rig;
-  area = λ told. record { written = λ change. absurd (let differ : false ≡ true = change in cc); kept = λ other. refl };
-  area_left = λ init told. looking {m = m} dimm (no_call m rig);
-  cause = record { faults = refl; failed_dimm = refl };
-  among = tt;
-  at = tt;
-  reads = λ other. refl;
+  refused = refl;
+  unwritten = no_call m rig;
+  memory = tt;
+  unwritten_memory = tt;
   regions = refl;
   dimms = refl;
   sizes = refl;
+  stands = λ stand. stand.1;
+  any_moment = λ stand. no_flip {m = m} {old = rig} P.modules (IsBeforeOrBehind P (labels_in sets) (Initialises P (labels_in sets) dimm (slots_at sets dimm))) (labels_in sets)
+      (standing P sets in_P (m.areas rig) stand.1) (inl refl);
+  area = λ told. record { written = λ change. absurd (let differ : false ≡ true = change in cc); kept = λ other. refl };
+  area_left = λ told. looking {m = m} dimm (no_call m rig);
+  writes_among = no_write {m = m} (dimm ∷ []) rig;
+  cause = record { faults = refl; failed_dimm = refl };
+  among = tt;
 }

@@ -1,5 +1,5 @@
 use Rattle.namespace_commands.proofs.OneTranslation.{module-reply-one, runs-reply-one, spa-reply-one}
-use Rattle.namespace_commands.proofs.translation_laws.one_translation.Goals as goal
+use Rattle.namespace_commands.proofs.laws.one_translation.Goals as goal
 
 pub returns-clause-to_module : goal.returns-clause-to_module
 returns-clause-to_module c = λ platform index spa reply told sound a b. module-reply-one platform index sound spa reply told a b

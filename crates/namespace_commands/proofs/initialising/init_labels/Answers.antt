@@ -1,26 +1,25 @@
 use Rattle.std.proofs.Common.{◌≡◌, ℕ, List, Bool, true, false, sym, subst, ◌∙◌}
 use Rattle.std.specs.Prelude.{◌==◌}
 use Rattle.std.specs.List.{list_any}
-use Rattle.cmd_words.specs.declared.commands.Command.TheVariants.{InitLabels}
-use Rattle.namespace_core.specs.Done.{IsDone, run_by}
-use Rattle.namespace_core.proofs.Initialising.{found, init-is-done, unknown-done}
-use Rattle.namespace_core.proofs.commands.init_labels.Goals as goal
+use Rattle.namespace_commands.specs.Initialising.{IsInit}
+use Rattle.namespace_commands.proofs.InitEnds.{found, init-is-done, unknown-done}
+use Rattle.namespace_commands.proofs.initialising.init_labels.Goals as goal
 
 -- what is found in a list that is another
 there : {hs modules : List ℕ} (dimm : ℕ) (b : Bool) → hs ≡ modules → list_any (λ handle. handle == dimm) hs ≡ b → list_any (λ handle. handle == dimm) modules ≡ b
 there dimm b same is = subst (λ (xs : List ℕ). list_any (λ handle. handle == dimm) xs ≡ b) same is
 
 pub returns-then-not-contains : goal.returns-then-not-contains
-returns-then-not-contains g c = λ own.
-    unknown-done g.R.Shown c.args.platform.now c.args.sets.now c.requires.state c.args.dimm own c.args.rig.now (there c.args.dimm false c.as_slice.ensures (sym c.contains.ensures.value ∙ c.if-not-contains.true))
+returns-then-not-contains g c =
+    unknown-done g.R.Shown c.args.platform.now c.args.sets.now c.requires.state c.args.dimm c.args.rig.now (there c.args.dimm false c.as_slice.ensures (sym c.contains.ensures.value ∙ c.if-not-contains.true))
 
 pub init-requires-clause-known : goal.init-requires-clause-known
 init-requires-clause-known g c = found c.args.platform.now c.args.sets.now c.requires.state c.args.dimm (there c.args.dimm true c.as_slice.ensures (sym c.contains.ensures.value ∙ c.if-not-contains.false))
 
 pub returns : goal.returns
-returns g c = λ own.
-    subst (λ answer. IsDone g.R.Shown c.args.platform.now (InitLabels c.args.dimm) own c.args.sets.now c.args.rig.now c.init.new.self c.init.new.rig (run_by answer)) (sym c.init_answer.ensures)
-    (init-is-done g.R.Shown c.args.platform.now c.args.sets.now c.requires.state c.args.dimm (there c.args.dimm true c.as_slice.ensures (sym c.contains.ensures.value ∙ c.if-not-contains.false)) own c.args.rig.now c.init.new.self c.init.new.rig c.init.result (record {
+returns g c =
+    subst (λ answer. IsInit g.R.Shown c.args.platform.now c.args.dimm c.args.sets.now c.args.rig.now c.init.new.self c.init.new.rig answer) (sym c.init_answer.ensures)
+    (init-is-done g.R.Shown c.args.platform.now c.args.sets.now c.requires.state c.args.dimm (there c.args.dimm true c.as_slice.ensures (sym c.contains.ensures.value ∙ c.if-not-contains.false)) c.args.rig.now c.init.new.self c.init.new.rig c.init.result (record {
       slots = c.init.ensures.slots;
       uninit = c.init.ensures.uninit;
       state_is = c.init.ensures.state;
