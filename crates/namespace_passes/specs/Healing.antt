@@ -2,7 +2,7 @@
 use Rattle.std.specs.Prelude.{◌≡◌, ℕ, ◌<◌, false, true, List, Some, length, map, slice_index_or}
 use Rattle.std.specs.List.{All, Contains}
 use Rattle.label_codec.specs.declared.label.Label.{Label}
-use Rattle.label_codec.specs.ModuleLabels.{has}
+use Rattle.label_codec.specs.ModuleLabels.{Labels, has}
 use Rattle.region_map.specs.declared.platform.Member.{Member}
 use Rattle.region_map.specs.declared.platform.Region.{Region}
 use Rattle.label_table.specs.Belonging.{member_at}
@@ -10,7 +10,7 @@ use Rattle.label_table.specs.Division.{part_size}
 use Rattle.label_table.specs.Flips.{EachLabel}
 use Rattle.label_table.specs.Plain.{HasOnly}
 use Rattle.label_table.specs.Tables.{changed_at, is_member, state, table}
-use Rattle.label_table.specs.Wholes.{any_read_only, is_whole, labels_with, leading_label}
+use Rattle.label_table.specs.Wholes.{any_read_only, is_whole, label_count, labels_with, leading_label}
 use Rattle.region_labels.specs.declared.modules.LoadedModule.{LoadedModule}
 use Rattle.region_labels.specs.declared.region.RegionLabels.{RegionLabels}
 use Rattle.region_labels.specs.Fates.{platform_of, region_in}
@@ -45,6 +45,10 @@ pub record CanTurn (modules : List LoadedModule) (regions : List RegionLabels) (
   pub leads : leading_label region (labels_with uuid (labels_in modules)) ≡ Some leading
   pub last : position ≡ 0 → (other : ℕ) → 0 < other → other < length region.members
       → IsAlikeAt (labels_in modules) region uuid leading other
+
+-- the module at a position has one label with the uuid
+abbrev pub HasOneAt : Labels → Region → List ℕ → ℕ → Type 0
+HasOneAt labels region uuid position = label_count (labels_with uuid labels) (member_at region position).handle ≡ 1
 
 -- where the only label with the uuid of the member at a position stands
 pub record StandsAt (modules : List LoadedModule) (region : Region) (uuid : List ℕ) (position : ℕ)
