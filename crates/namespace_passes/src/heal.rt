@@ -2,7 +2,6 @@
 
 ghost use Rattle.std.specs.Prelude.{◌≡◌, ◌<◌, Some, OnOk, length};
 ghost use Rattle.label_codec.specs.declared.label.Label.{Label};
-ghost use Rattle.label_table.specs.Tables.{table};
 ghost use Rattle.label_table.specs.Wholes.{labels_with, leading_label};
 ghost use Rattle.region_labels.specs.Fates.{platform_of};
 ghost use Rattle.region_labels.specs.Modules.{labels_in};
