@@ -9,8 +9,8 @@ ghost use Rattle.module_flips.specs.Together.{IsTogether, StaysTogether};
 ghost use Rattle.namespace_passes.specs.Dropping.{IsBeforeOrWithout, IsDropped};
 ghost use Rattle.label_sets.specs.Dropping.{CanDropAt, HasAloneAt};
 ghost use Rattle.label_sets.specs.Kept.{IsKnownFree, IsKnownReady};
-
 ghost use Rattle.module_flips.specs.Passes.{AreSized, IsPass, kept_of};
+
 use crate::free::FreeExtents;
 use crate::sets::Sets;
 use crate::views::place_of;
@@ -25,7 +25,7 @@ impl Sets {
     ghost use Rattle.label_sets.specs.Sets as sets;
     ghost use Rattle.label_sets.specs.Sets.{kept_in, platform_in};
     ghost use Rattle.label_sets.specs.Staging.{OfRegion};
-    ghost use Rattle.label_sets.specs.Dropping.{CanDropIn, GainsSlots, HasNoneIn, IsDroppedIn, IsKeptOrDropped};
+    ghost use Rattle.label_sets.specs.Dropping.{CanDropIn, GainsSlots, HasNoneIn, IsDroppedIn};
 
     /// Frees the labels of a namespace, all of which are marked as being changed and none of which is read-only, by
     /// position and one flip each. By the first flip the namespace is gone; by the last no module of the region has a

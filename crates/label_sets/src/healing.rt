@@ -4,11 +4,11 @@ ghost use Rattle.std.specs.Prelude.{◌≡◌, IsSome, OnOk, Some};
 ghost use Rattle.region_map.specs.Platforms.{IsSound, region_at};
 ghost use Rattle.label_table.specs.Tables.{table};
 ghost use Rattle.region_labels.specs.Regions.{handles};
-
 ghost use Rattle.module_flips.specs.Passes.{AreSized, IsPass};
 ghost use Rattle.label_codec.specs.declared.label.Label.{Label};
 ghost use Rattle.label_table.specs.Wholes.{labels_with, leading_label};
 ghost use Rattle.namespace_passes.specs.Namespaces.{IsWellFrom};
+
 use crate::sets::Sets;
 use crate::views::place_of;
 use module_flips::AreaFailed;

@@ -4,9 +4,9 @@ ghost use Rattle.std.specs.Prelude.{◌≡◌, IsSome, OnOk};
 ghost use Rattle.region_map.specs.Platforms.{IsSound, region_at};
 ghost use Rattle.label_table.specs.Tables.{table};
 ghost use Rattle.region_labels.specs.Regions.{handles};
-
 ghost use Rattle.module_flips.specs.Passes.{AreSized, IsPass};
 ghost use Rattle.namespace_passes.specs.Marking.{AreUpdating};
+
 use crate::sets::Sets;
 use crate::views::place_of;
 use module_flips::AreaFailed;

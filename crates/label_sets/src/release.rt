@@ -4,8 +4,8 @@ ghost use Rattle.std.specs.Prelude.{◌≡◌, ◌∷◌, [], IfOk, OnErr, OnOk,
 ghost use Rattle.label_codec.specs.ModuleLabels.{has};
 ghost use Rattle.module_flips.specs.Releases.{IsBeforeOrReleased, released_state};
 ghost use Rattle.module_flips.specs.Sweeps.{ChangesOnly};
-
 ghost use Rattle.module_flips.specs.Passes.{AreSized, IsPass};
+
 use crate::sets::Sets;
 use crate::sweep::seat_of;
 use module_flips::{AreaFailed, release_labels};

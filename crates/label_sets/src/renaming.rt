@@ -4,8 +4,8 @@ ghost use Rattle.std.specs.Prelude.{◌≡◌, IsSome, OnErr, OnOk};
 ghost use Rattle.region_map.specs.Platforms.{IsSound, region_at};
 ghost use Rattle.region_labels.specs.Regions.{handles};
 ghost use Rattle.namespace_passes.specs.Renaming.{IsBeforeOrRenamed};
-
 ghost use Rattle.module_flips.specs.Passes.{AreSized, IsPass};
+
 use crate::sets::Sets;
 use module_flips::AreaFailed;
 use namespace_passes::change_first;

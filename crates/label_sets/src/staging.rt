@@ -11,8 +11,8 @@ ghost use Rattle.namespace_passes.specs.Staged.{IsBeforeOrWith, new_space};
 ghost use Rattle.namespace_passes.specs.Staging.{IsStaged};
 ghost use Rattle.label_sets.specs.Kept.{IsKnownFree};
 ghost use Rattle.label_sets.specs.Staging.{CanStageAt};
-
 ghost use Rattle.module_flips.specs.Passes.{AreSized, IsPass, kept_of};
+
 use crate::free::FreeExtents;
 use crate::sets::Sets;
 use crate::views::place_of;

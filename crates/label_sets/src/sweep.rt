@@ -7,8 +7,8 @@ ghost use Rattle.region_labels.specs.declared.modules.LoadedModule.{LoadedModule
 ghost use Rattle.region_labels.specs.Modules.{labels_in};
 ghost use Rattle.module_flips.specs.Flips.{IsReadyArea};
 ghost use Rattle.module_flips.specs.Sweeps.{ChangesOnly};
-
 ghost use Rattle.module_flips.specs.Passes.{AreSized, IsPass};
+
 use crate::sets::Sets;
 use module_flips::{AreaFailed, sweep_labels};
 use region_labels::LoadedModule;

@@ -10,7 +10,6 @@ use Rattle.rig_trait.specs.declared.shown.Shown.{Ghosts}
 use Rattle.rig_trait.specs.Areas.{Areas}
 use Rattle.rig_trait.specs.Frames.{LeavesOnly, Reads}
 use Rattle.rig_trait.specs.Records.{CrashRecord}
-use Rattle.rig_trait.proofs.Moments.{weakened}
 use Rattle.label_area.specs.Flips.{is_among}
 use Rattle.label_codec.specs.ModuleLabels.{Labels}
 use Rattle.region_map.specs.declared.platform.Member.{Member}
@@ -19,7 +18,8 @@ use Rattle.region_map.specs.declared.platform.Region.{Region}
 use Rattle.region_map.specs.Platforms.{IsSound, region_at}
 use Rattle.region_labels.specs.Modules.{dimm_of, size_in}
 use Rattle.region_labels.specs.Regions.{handles}
-use Rattle.module_flips.specs.Stops.{LeftIn, WritesAmong}
+use Rattle.module_flips.specs.Stops.{HasAreaCause, LeftIn, WritesAmong}
+use Rattle.module_flips.proofs.Passes.{in-left, pass-as}
 use Rattle.module_flips.specs.Stored.{StandsIn}
 use Rattle.label_table.proofs.ListTests.{eq_same, find-some, list_any-at}
 use Rattle.label_sets.specs.Init.{slots_at}
@@ -39,8 +39,7 @@ use Rattle.namespace_commands.specs.Lists.{IsStateOf}
 use Rattle.namespace_commands.specs.Releases.{IsAreaOf}
 use Rattle.namespace_commands.specs.Changes.{IsBeforeOrBehind}
 use Rattle.namespace_commands.specs.Commands.{IsChange}
-use Rattle.namespace_commands.specs.Create.{HasChangeCause, WhereMemory, WhereRefused, modules_of}
-use Rattle.namespace_commands.proofs.JoinedSteps.{left-fits}
+use Rattle.namespace_commands.specs.Create.{WhereMemory, WhereRefused, area_failed, modules_of}
 use Rattle.namespace_commands.proofs.RecoveredSpaces.{state-there}
 use Rattle.cmd_words.specs.declared.name_keys.NameKey.{NameKey}
 use Rattle.cmd_words.specs.declared.commands.Command.{Command}
@@ -72,7 +71,7 @@ pub ok-run : (fact : Reply → Type 0) (result : Result Reply ChangeFault) → I
 ok-run fact (Ok reply) is = is
 ok-run fact (Err fault) is = tt
 
-pub on-run : (fact : Type 0) (result : Result Reply ChangeFault) → OnOk result fact → OnOk (run_by result) fact
+pub on-run : (fact : Type 0) (result : Result Reply ChangeFault) → OnOk (area_failed result) fact → OnOk (run_by result) fact
 on-run fact (Ok reply) is = is
 on-run fact (Err fault) is = tt
 
@@ -95,10 +94,10 @@ region-known P sound index dimm = by (region_at P index) refl
         list_any-at (λ handle. handle == dimm) P.modules dimm (member-known r.members P.modules dimm (known-members P sound r in_P) is) (eq_same dimm dimm refl)
 
 -- a command on a region fails at a module of the platform
-pub region-among : {R : Type 0} (m : Ghosts R) (old new : R) (P : Platform) → IsSound P → (index : ℕ) (result : Result Reply ChangeFault) → HasChangeCause (modules_of P index) m old new result
+pub region-among : {R : Type 0} (m : Ghosts R) (old new : R) (P : Platform) → IsSound P → (index : ℕ) (result : Result Reply ChangeFault) → HasAreaCause (modules_of P index) m old new (area_failed result)
     → IfErr (run_by result) (IsRunAmong P.modules)
 region-among m old new P sound index (Ok reply) cause = tt
-region-among m old new P sound index (Err (Area dimm)) cause = region-known P sound index dimm cause.1
+region-among m old new P sound index (Err (Area dimm)) cause = region-known P sound index dimm cause.known
 region-among m old new P sound index (Err Memory) cause = tt
 
 -- one on a module names it
@@ -108,14 +107,14 @@ release-among P (Err (Area dimm)) among = among
 release-among P (Err Memory) among = tt
 
 module _ {R : Type 0} (m : Ghosts R) (old new : R) (modules : List ℕ) where
-  change-cause : (result : Result Reply ChangeFault) → HasChangeCause modules m old new result → HasRunCause m old new (run_by result)
+  change-cause : (result : Result Reply ChangeFault) → HasAreaCause modules m old new (area_failed result) → HasRunCause m old new (run_by result)
   change-cause (Ok reply) cause = cause
-  change-cause (Err (Area dimm)) cause = cause.0
+  change-cause (Err (Area dimm)) cause = cause.fails
   change-cause (Err Memory) cause = cause
 
-  change-at : (result : Result Reply ChangeFault) → HasChangeCause modules m old new result → IfErr (run_by result) (IsRunAt modules)
+  change-at : (result : Result Reply ChangeFault) → HasAreaCause modules m old new (area_failed result) → IfErr (run_by result) (IsRunAt modules)
   change-at (Ok reply) cause = tt
-  change-at (Err (Area dimm)) cause = cause.1
+  change-at (Err (Area dimm)) cause = cause.known
   change-at (Err Memory) cause = tt
 
 -- A command that changes areas of these modules by this step.
@@ -137,34 +136,34 @@ module _ {R : Type 0} (m : Ghosts R) (P : Platform) (sets : StoredSets) (in_P : 
   change-step : (result : Result Reply ChangeFault) → IsChange modules P does m sets old now new result
       → IfOk (run_by result) (λ reply. SaysIfKnown P command (Stand m old sets) (Does P (slots_at sets) (labels_in sets) command own reply (state P (labels_in now))))
   change-step (Ok reply) has =
-      is.says (Stand m old sets) _ (is.does_so reply (state P (labels_in now)) (subst (does reply) (state-there P now (has.regions ∙ in_P.regions) (labels_in now)) has.step))
+      is.says (Stand m old sets) _ (is.does_so reply (state P (labels_in now)) (subst (does reply) (state-there P now (has.pass.regions ∙ in_P.regions) (labels_in now)) has.step))
   change-step (Err fault) has = tt
 
   change-left : (result : Result Reply ChangeFault) → IsChange modules P does m sets old now new result → Stand m old sets
       → LeavesOnly m old new (LeftIn P.modules (m.said old) (IsBeforeOrAfter P (slots_at sets) (labels_in sets) command own))
   change-left result has stand =
       subst (λ (hs : List ℕ). LeavesOnly m old new (LeftIn hs (m.said old) (IsBeforeOrAfter P (slots_at sets) (labels_in sets) command own))) in_P.modules
-      (left-fits (map dimm_of sets.modules) (m.said old) (IsBeforeOrBehind P (labels_in sets) does) (IsBeforeOrAfter P (slots_at sets) (labels_in sets) command own) fits-on (has.any_moment stand.0 stand.1))
+      (in-left ((pass-as fits-on has.pass).any_moment stand.0 stand.1))
 
   pub change-is-done : (result : Result Reply ChangeFault) → IsChange modules P does m sets old now new result → IfErr (run_by result) (IsRunAmong P.modules)
       → IsDone m P command own sets old now new (run_by result)
   change-is-done result has among = record {
     step = change-step result has;
     anyhow = said-told P (slots_at sets) (labels_in sets) command own (state P (labels_in now)) (Stand m old sets) is.other (run_by result) (change-step result has);
-    stands = λ stand. on-run _ result (has.stands stand.0 stand.1);
+    stands = λ stand. on-run _ result (has.pass.stands stand.0 stand.1);
     any_moment = change-left result has;
     kept = λ quiet. change-kept does is.refuses (state_in now) (now ≡ sets) result has.step has.refused has.memory (sym (is.quiet (run_by result)) ∙ quiet);
     reads_only = λ quiet. subst (Reads m old) (sym (change-kept does is.refuses (state_in now) (new ≡ old) result has.step has.unwritten has.unwritten_memory (sym (is.quiet (run_by result)) ∙ quiet))) (no_call m old);
-    writes = subst (λ (hs : List ℕ). WritesAmong hs m old new) (sym is.written) has.writes_among;
+    writes = subst (λ (hs : List ℕ). WritesAmong hs m old new) (sym is.written) has.pass.writes;
     area = λ told. is.areas (m.areas old) (m.areas new) (run_by result);
     area_left = λ init. absurd (let differ : true ≡ false = sym init ∙ is.other in cc);
-    cause = change-cause m old new modules result has.cause;
+    cause = change-cause m old new modules result has.pass.cause;
     among = among;
-    at = subst (λ (hs : List ℕ). IfErr (run_by result) (IsRunAt hs)) (sym is.written) (change-at m old new modules result has.cause);
-    reads = λ other. has.reads;
-    regions = has.regions;
-    dimms = has.dimms;
-    sizes = has.sizes;
+    at = subst (λ (hs : List ℕ). IfErr (run_by result) (IsRunAt hs)) (sym is.written) (change-at m old new modules result has.pass.cause);
+    reads = λ other. has.pass.reads;
+    regions = has.pass.regions;
+    dimms = has.pass.dimms;
+    sizes = has.pass.sizes;
   }
 
 -- The commands.

@@ -47,22 +47,8 @@ returns-in-Create g c =
       abstraction = m.abstraction;
       sector = m.sector;
       uuid = uuid;
-    })) g.R.Shown c.args.sets.now c.args.rig.now c.create.new.sets c.create.new.rig c.create.result) uuid_is (record {
-      step = c.create.ensures.step;
-      refused = c.create.ensures.refused;
-      unwritten = c.create.ensures.unwritten;
-      memory = c.create.ensures.memory;
-      unwritten_memory = c.create.ensures.unwritten_memory;
-      regions = c.create.ensures.regions;
-      dimms = c.create.ensures.dimms;
-      sizes = c.create.ensures.sizes;
-      stands = c.create.ensures.stands;
-      any_moment = c.create.ensures.any_moment;
-      writes_among = c.create.ensures.writes_among;
-      cause = c.create.ensures.cause;
-      reads = c.create.ensures.reads;
-    }))
-    (region-among g.R.Shown c.args.rig.now c.create.new.rig P c.requires.sound m.region c.create.result c.create.ensures.cause))
+    })) g.R.Shown c.args.sets.now c.args.rig.now c.create.new.sets c.create.new.rig c.create.result) uuid_is c.create.ensures)
+    (region-among g.R.Shown c.args.rig.now c.create.new.rig P c.requires.sound m.region c.create.result c.create.ensures.pass.cause))
 
 pub returns-in-Destroy : goal.returns-in-Destroy
 returns-in-Destroy g c =
@@ -72,7 +58,7 @@ returns-in-Destroy g c =
     subst (λ (command : Command). IsDone g.R.Shown P command c.args.own.now c.args.sets.now c.args.rig.now c.destroy.new.sets c.destroy.new.rig (run_by c.destroy.result)) (sym m.is)
     (change-is-done g.R.Shown P c.args.sets.now c.requires.state (commands.Destroy m.region m.key) c.args.own.now (modules_of P m.region) (Destroys P L m.region m.key)
     (destroy-change P (slots_at c.args.sets.now) L c.args.own.now m.region m.key) c.args.rig.now c.destroy.new.sets c.destroy.new.rig c.destroy.result c.destroy.ensures
-    (region-among g.R.Shown c.args.rig.now c.destroy.new.rig P c.requires.sound m.region c.destroy.result c.destroy.ensures.cause))
+    (region-among g.R.Shown c.args.rig.now c.destroy.new.rig P c.requires.sound m.region c.destroy.result c.destroy.ensures.pass.cause))
 
 pub returns-in-Rename : goal.returns-in-Rename
 returns-in-Rename g c =
@@ -82,7 +68,7 @@ returns-in-Rename g c =
     subst (λ (command : Command). IsDone g.R.Shown P command c.args.own.now c.args.sets.now c.args.rig.now c.rename.new.sets c.rename.new.rig (run_by c.rename.result)) (sym m.is)
     (change-is-done g.R.Shown P c.args.sets.now c.requires.state (commands.Rename m.region m.key m.name) c.args.own.now (modules_of P m.region) (Renames P L m.region m.key m.name)
     (rename-change P (slots_at c.args.sets.now) L c.args.own.now m.region m.key m.name) c.args.rig.now c.rename.new.sets c.rename.new.rig c.rename.result c.rename.ensures
-    (region-among g.R.Shown c.args.rig.now c.rename.new.rig P c.requires.sound m.region c.rename.result c.rename.ensures.cause))
+    (region-among g.R.Shown c.args.rig.now c.rename.new.rig P c.requires.sound m.region c.rename.result c.rename.ensures.pass.cause))
 
 pub returns-in-ReleaseHeld : goal.returns-in-ReleaseHeld
 returns-in-ReleaseHeld g c =
