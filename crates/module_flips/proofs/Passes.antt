@@ -182,10 +182,26 @@ module _ {R : Type 0} {m : Ghosts R} where
   -- the pass with another answer
   pub still-ended : {S T : Type 0} {old new : R} {hs : List ℕ} {before after : Kept} {fits : Labels → Type 0} {value : S} {other : T} → IsPass hs fits m before old after new (Ok value) → IsPass hs fits m before old after new (Ok other)
   still-ended pass = record {
-    regions = pass.regions; dimms = pass.dimms; sizes = pass.sizes; labels = pass.labels; stands = pass.stands; any_moment = pass.any_moment; writes = pass.writes; cause = pass.cause; reads = pass.reads;
+    regions = pass.regions;
+    dimms = pass.dimms;
+    sizes = pass.sizes;
+    labels = pass.labels;
+    stands = pass.stands;
+    any_moment = pass.any_moment;
+    writes = pass.writes;
+    cause = pass.cause;
+    reads = pass.reads;
   }
 
   pub still-failed : {S T : Type 0} {old new : R} {hs : List ℕ} {before after : Kept} {fits : Labels → Type 0} {failed : AreaFailed} → IsPass {T = S} hs fits m before old after new (Err failed) → IsPass {T = T} hs fits m before old after new (Err failed)
   still-failed pass = record {
-    regions = pass.regions; dimms = pass.dimms; sizes = pass.sizes; labels = pass.labels; stands = pass.stands; any_moment = pass.any_moment; writes = pass.writes; cause = pass.cause; reads = pass.reads;
+    regions = pass.regions;
+    dimms = pass.dimms;
+    sizes = pass.sizes;
+    labels = pass.labels;
+    stands = pass.stands;
+    any_moment = pass.any_moment;
+    writes = pass.writes;
+    cause = pass.cause;
+    reads = pass.reads;
   }
