@@ -6,7 +6,6 @@ ghost use Rattle.label_table.specs.Statuses.{RegionReady, status};
 ghost use Rattle.region_labels.specs.Regions.{handles};
 ghost use Rattle.recovery.specs.Recovery.{IsRecovered};
 ghost use Rattle.table_steps.specs.Refusals.{unhealed_in};
-ghost use Rattle.namespace_commands.specs.Create.{IsTableOf};
 ghost use Rattle.module_flips.specs.Passes.{AreSized, IsPass};
 ghost use Rattle.label_sets.specs.Sets.{IsTableOf, kept_in, labels_in};
 

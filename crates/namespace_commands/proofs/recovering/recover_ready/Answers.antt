@@ -31,9 +31,9 @@ unreachable-requires g c =
     some-none c.in-Err-Unhealed.field-0-0 (sym (ap (unhealed_by {T = Unit {0}}) c.in-Err-Unhealed.is ∙ ap (λ (e : RecoverFault). unhealed_by {T = Unit {0}} (Err e)) c.in-Err-Unhealed.field-0-is) ∙ c.recover.ensures.unhealed r found ∙ none)
 
 -- the same pass, told of its fault alone
-told : {R : Type 0} {m : Ghosts R} {old new : R} {hs : List ℕ} {sets now : StoredSets} (result : Result Unit RecoverFault) (other : Result Unit AreaFailed) → area_failed result ≡ other
+told : {R : Type 0} {m : Ghosts R} {old new : R} {hs : List ℕ} (sets now : StoredSets) (result : Result Unit RecoverFault) (other : Result Unit AreaFailed) → area_failed result ≡ other
     → IsPass hs (IsTableOf sets) m (kept_in sets) old (kept_in now) new (area_failed result) → IsPass hs (IsTableOf sets) m (kept_in sets) old (kept_in now) new other
-told {R} {m} {old} {new} {hs} {sets} {now} result other same pass = subst (λ (r : Result Unit AreaFailed). IsPass hs (IsTableOf sets) m (kept_in sets) old (kept_in now) new r) same pass
+told {R} {m} {old} {new} {hs} sets now result other same pass = subst (λ (r : Result Unit AreaFailed). IsPass hs (IsTableOf sets) m (kept_in sets) old (kept_in now) new r) same pass
 
 pub returns-in-Ok-clause-pass : goal.returns-in-Ok-clause-pass
 returns-in-Ok-clause-pass g c =
@@ -47,5 +47,5 @@ returns-in-Err-Failed-clause-pass g c =
     let sets = c.args.sets.now in
     let r = c.args.region.now in
     let found : region_at (platform_in sets) r.index ≡ Some r = ap (λ (rs : List Region). region_at (with_regions rs) r.index) (sym c.requires.platform) ∙ c.requires.known in
-    told c.recover.result (Err (record { dimm = c.in-Err-Failed.dimm }))
+    told sets c.recover.new.sets c.recover.result (Err (record { dimm = c.in-Err-Failed.dimm }))
     (ap (area_failed {T = Unit {0}}) c.in-Err-Failed.is ∙ ap (λ (e : RecoverFault). area_failed {T = Unit {0}} (Err e)) c.in-Err-Failed.field-0-is) (c.recover.ensures.pass r found)
