@@ -175,5 +175,8 @@ healed-in ms rs r u now regions_now together room healed = record {
   same_table = healed.same_table;
   marks = healed.marks;
   alike = healed.alike;
+  heal = healed.heal;
+  others = healed.others;
+  elsewhere = healed.elsewhere;
   same_free = healed.same_free;
 }

@@ -8,7 +8,7 @@ ghost use Rattle.region_labels.specs.Modules.{labels_in};
 ghost use Rattle.region_labels.specs.Regions.{handles};
 ghost use Rattle.module_flips.specs.Together.{StaysTogether};
 ghost use Rattle.namespace_passes.specs.Staged.{IsBeforeOrWith, new_space};
-ghost use Rattle.namespace_passes.specs.Staging.{IsStaged};
+ghost use Rattle.namespace_passes.specs.Staging.{AreStaged, IsStaged};
 ghost use Rattle.label_sets.specs.Kept.{IsKnownFree};
 ghost use Rattle.label_sets.specs.Staging.{CanStageAt};
 ghost use Rattle.module_flips.specs.Passes.{AreSized, IsPass, kept_of};
@@ -49,6 +49,8 @@ impl Sets {
         ensures staged { OfRegion self.old region (λ found. OnOk result
             (state_in self.new ≡ with_namespace found (new_space space.now) (state_in self.old))) }
         ensures slots { OfRegion self.old region (λ found. OnOk result (GivesSlots self.old self.new found)) }
+        ensures labels { OfRegion self.old region (λ found. OnOk result
+            (AreStaged found space.now (sets.labels_in self.new))) }
         ensures failed { OnErr result (state_in self.new ≡ state_in self.old) }
         ensures room { self.new.room ≡ false }
         ensures pass { OfRegion self.old region (λ found. IsPass (handles found)
@@ -87,6 +89,7 @@ fn stage_in<R: Rig>(
     requires stage { CanStageAt modules.old regions.old free.old place region.now space.now }
     requires sized { AreSized R.Shown rig.old modules.old }
     ensures staged { OnOk result (IsStaged modules.old regions.old region.now (new_space space.now) modules.new) }
+    ensures labels { OnOk result (AreStaged region.now space.now (labels_in modules.new)) }
     ensures failed { OnErr result (state (platform_of regions.old) (labels_in modules.new)
         ≡ state (platform_of regions.old) (labels_in modules.old)) }
     ensures together { StaysTogether modules.old regions.old modules.new regions.new }

@@ -39,7 +39,7 @@ use Rattle.namespace_passes.specs.Healing.{StandsAt}
 use Rattle.namespace_passes.proofs.Bounded.{all-bounded}
 use Rattle.namespace_passes.proofs.HealFlips.{no_module}
 use Rattle.namespace_passes.specs.Dropping.{GivesSlot, HasGiven, IsBeforeOrLost, LosesLabel}
-use Rattle.namespace_passes.proofs.DropFreeSlots.{one-freed}
+use Rattle.module_flips.proofs.FreeSlots.{one-freed}
 use Rattle.namespace_passes.proofs.Freeing.{loses, one-label-less}
 
 -- an area with a label is Ready

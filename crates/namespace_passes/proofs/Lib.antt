@@ -21,7 +21,6 @@ pub mod MarkTurns
 pub mod MarkEnds
 pub mod MarkFlips
 pub mod Freeing
-pub mod DropFreeSlots
 pub mod DropFlips
 pub mod DropEnds
 pub mod DropSlots

@@ -12,7 +12,7 @@ ghost use Rattle.region_labels.specs.Modules.{labels_in};
 ghost use Rattle.region_labels.specs.Regions.{handles};
 ghost use Rattle.module_flips.specs.Together.{StaysTogether};
 ghost use Rattle.namespace_passes.specs.Staged.{IsBeforeOrWith, new_space, staged_label};
-ghost use Rattle.namespace_passes.specs.Staging.{CanStage, CanStageAt, IsStaged, StagedBelow};
+ghost use Rattle.namespace_passes.specs.Staging.{AreStaged, CanStage, CanStageAt, IsStaged, StagedBelow};
 ghost use Rattle.module_flips.specs.Passes.{AreSized, IsPass, kept_of};
 
 use label_codec::{Label, UPDATING};
@@ -38,6 +38,7 @@ pub fn stage_labels<R: Rig>(
     requires stage { CanStage modules.old regions.old region.now space.now }
     requires sized { AreSized R.Shown rig.old modules.old }
     ensures staged { OnOk result (IsStaged modules.old regions.old region.now (new_space space.now) modules.new) }
+    ensures labels { OnOk result (AreStaged region.now space.now (labels_in modules.new)) }
     ensures failed { OnErr result (state (platform_of regions.old) (labels_in modules.new)
         ≡ state (platform_of regions.old) (labels_in modules.old)) }
     ensures together { StaysTogether modules.old regions.old modules.new regions.new }

@@ -1,7 +1,9 @@
-use Rattle.std.proofs.Common.{◌≡◌, ◌∙◌, false, true, refl, sym, subst}
+use Rattle.std.proofs.Common.{◌≡◌, ◌∙◌, inl, false, true, refl, sym, ap, subst}
 use Rattle.region_labels.specs.Fates.{platform_of}
 use Rattle.region_labels.specs.Modules.{labels_in}
 use Rattle.region_labels.specs.Regions.{handles}
+use Rattle.label_table.proofs.ListTests.{some_is}
+use Rattle.namespace_passes.specs.Labels.{needs_healing}
 use Rattle.namespace_passes.specs.Namespaces.{IsTurned}
 use Rattle.module_flips.specs.Passes.{kept_of}
 use Rattle.module_flips.proofs.Passes.{no-pass}
@@ -19,6 +21,16 @@ returns-then-not-needs_healing-clause-pass g c = no-pass (handles c.args.region.
 
 pub returns-then-not-needs_healing-clause-still : goal.returns-then-not-needs_healing-clause-still
 returns-then-not-needs_healing-clause-still g c = still-kept c.args.modules.now c.args.regions.now c.args.modules.now c.args.regions.now c.requires.turn.can.together refl refl
+
+pub returns-then-not-needs_healing-clause-turned : goal.returns-then-not-needs_healing-clause-turned
+returns-then-not-needs_healing-clause-turned g c = record {
+  same_table = refl;
+  same_marks = refl;
+  stands = record { whole = c.requires.turn.can.whole; writable = c.requires.turn.can.writable };
+  alike = λ l at. ap (needs_healing c.args.leading.now) (some_is (sym at ∙ c.place_at-own.ensures.only.first_is)) ∙ sym c.if-not-needs_healing.ensures;
+  heal = inl refl;
+  confined = record { others = λ other differ. refl; rest = refl };
+}
 
 pub put_at-requires-clause-free : goal.put_at-requires-clause-free
 put_at-requires-clause-free g c =

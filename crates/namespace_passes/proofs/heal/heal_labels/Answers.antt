@@ -11,9 +11,9 @@ use Rattle.region_labels.specs.declared.modules.LoadedModule.{LoadedModule}
 use Rattle.region_labels.specs.Fates.{platform_of, with_regions}
 use Rattle.region_labels.specs.Modules.{labels_in}
 use Rattle.namespace_passes.specs.Labels.{needs_healing}
-use Rattle.namespace_passes.specs.Namespaces.{IsAlikeAt, IsTurned, IsWellFrom}
+use Rattle.namespace_passes.specs.Namespaces.{HasHeal, IsAlikeAt, IsTurned, IsWellFrom}
 use Rattle.namespace_passes.proofs.Bounded.{all-bounded}
-use Rattle.namespace_passes.proofs.HealEnds.{all-alike, all-marks, all-table, some-members}
+use Rattle.namespace_passes.proofs.HealEnds.{all-alike, all-elsewhere, all-heal, all-marks, all-others, all-table, some-members}
 use Rattle.namespace_passes.proofs.HealFlips.{on_ok}
 use Rattle.module_flips.proofs.Passes.{pass-on, sized-on}
 use Rattle.namespace_passes.proofs.Passing.{can-turn, still-on, table-still}
@@ -58,6 +58,12 @@ returns-in-Ok-clause-healed g c =
           subst (λ (l : Label). EachLabel region u M (λ member label. needs_healing l label ≡ false))
           (same-leading (labels_in ms) region u lead leading some c.place_at.ensures.only.first_is leads)
           (all-alike P can.together.disjoint region can.region_in u lead (labels_in ms) L M bounded _ refl some first.healed turned);
+      heal = λ leading leads.
+          subst (λ (l : Label). (position : ℕ) → position < length region.members → HasHeal region u l position (labels_in ms) M)
+          (same-leading (labels_in ms) region u lead leading some c.place_at.ensures.only.first_is leads)
+          (all-heal P can.together.disjoint region can.region_in u lead (labels_in ms) L M bounded _ refl some first.healed turned);
+      others = all-others P can.together.disjoint region can.region_in u lead (labels_in ms) L M bounded _ refl some first.healed turned;
+      elsewhere = all-elsewhere P can.together.disjoint region can.region_in u lead (labels_in ms) L M bounded _ refl some first.healed turned;
       same_free = last.same_free ∙ first.still.same_free;
     })
     c.heal_at.ensures.turned

@@ -49,3 +49,6 @@ pub returns-clause-staged : goal.returns-clause-staged
 returns-clause-staged g c =
     let all : length c.args.region.now.members ≤ c.loop-position.position = omega (arith, c.loop-position-test.false, c.len-position-end.ensures) in
     all-staged c.args.modules.now c.args.regions.now c.args.region.now c.args.space.now c.requires.stage c.loop-position.position c.loop-position.modules c.loop-position.regions c.loop-position.invariant.below all
+
+pub returns-clause-labels : goal.returns-clause-labels
+returns-clause-labels g c = λ position slot label lt at has. (c.loop-position.invariant.below.labels.are position slot label lt at has).is
