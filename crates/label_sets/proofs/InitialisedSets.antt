@@ -52,6 +52,7 @@ use Rattle.module_flips.specs.Stops.{IsOneOf, LeftIn}
 use Rattle.module_flips.proofs.Freed.{stands-after}
 use Rattle.module_flips.proofs.Standing.{stands}
 use Rattle.module_flips.proofs.Stored.{no_block}
+use Rattle.module_flips.proofs.Passes.{in-left}
 use Rattle.module_flips.proofs.Turned.{one_flip}
 use Rattle.view_types.specs.declared.states.AreaState.{AreaState}
 use Rattle.label_sets.specs.declared.init.SetInitFault.{SetInitFault}
@@ -299,8 +300,8 @@ module _ (ms : List LoadedModule) (seat dimm size : ℕ) (area : LoadedArea) (lt
   -- what a stop leaves
   pub init-left : {R : Type 0} (m : Ghosts R) (old new : R) → All (StandsIn (m.areas old)) ms → LeavesOnly m old new (LeftByInit (m.areas old) (m.said old) dimm)
       → LeavesOnly m old new (LeftIn (map dimm_of ms) (m.said old) (IsOneOf (labels_in ms) (with_module dimm (vacant_module area.geometry.slots) (labels_in ms))))
-  init-left m old later all turn = one_flip (map dimm_of ms) (IsOneOf (labels_in ms) (with_module dimm (vacant_module area.geometry.slots) (labels_in ms))) dimm (after (m.areas old) all) (labels_in ms)
+  init-left m old later all turn = in-left (one_flip (map dimm_of ms) (IsOneOf (labels_in ms) (with_module dimm (vacant_module area.geometry.slots) (labels_in ms))) dimm (after (m.areas old) all) (labels_in ms)
       (stands ms (m.areas old) all)
       (list_any_at (λ h. h == dimm) (map dimm_of ms) seat 0 (subst (λ n. seat < n) (sym (length-map ms dimm_of)) lt) (eq-eqb (get_or (map dimm_of ms) seat 0) dimm handle))
       (weakened (LeftByInit (m.areas old) (m.said old) dimm) (LeftByFlip (m.areas old) (m.said old) dimm (after (m.areas old) all)) (to-flip (m.areas old) all (m.said old)) turn)
-      (inl refl) (inr refl)
+      (inl refl) (inr refl))

@@ -17,4 +17,5 @@ pub mod Written
 pub mod EntryCounts
 pub mod KnownReady
 pub mod Passes
+pub mod TablePasses
 pub mod Renamed

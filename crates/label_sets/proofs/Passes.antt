@@ -1,8 +1,10 @@
 -- What passes over the labels of a namespace need of what is kept, and what is kept after them.
-use Rattle.std.proofs.Common.{◌≡◌, ℕ, Bool, true, List, map, Option, Some, sym, ap, subst, ◌∙◌}
+use Rattle.std.proofs.Common.{◌≡◌, ℕ, Bool, true, List, map, Option, Some, Result, sym, ap, subst, ◌∙◌}
 use Rattle.std.specs.Prelude.{vec_capacity}
 use Rattle.std.specs.List.{All, AllZip, Contains}
 use Rattle.std.specs.Vec.{with_items}
+use Rattle.rig_trait.specs.declared.shown.Shown.{Ghosts}
+use Rattle.label_codec.specs.ModuleLabels.{Labels}
 use Rattle.extent_alloc.specs.Free.{FreeSpace}
 use Rattle.region_map.specs.declared.platform.Platform.{Platform}
 use Rattle.region_map.specs.declared.platform.Region.{Region}
@@ -15,17 +17,19 @@ use Rattle.region_labels.specs.declared.region.RegionLabels.{RegionLabels}
 use Rattle.region_labels.specs.Fates.{platform_of, region_in, with_regions}
 use Rattle.region_labels.specs.Modules.{dimm_of, labels_in}
 use Rattle.region_labels.specs.Rooms.{KeepsRegion}
+use Rattle.module_flips.specs.declared.flips.AreaFailed.{AreaFailed}
+use Rattle.module_flips.specs.Passes.{IsPass, Kept, kept_of}
 use Rattle.module_flips.specs.Together.{IsTogether, StaysTogether}
 use Rattle.namespace_passes.specs.Dropping.{CanDrop, IsBeforeOrWithout}
-use Rattle.namespace_passes.specs.Healing.{CanHeal}
+use Rattle.namespace_passes.specs.Healing.{CanHeal, IsHealed}
 use Rattle.namespace_passes.specs.Passes.{label_number, room_in}
 use Rattle.label_sets.specs.declared.sets.Sets.TheInside.{Inside}
 use Rattle.label_sets.specs.Dropping.{CanDropIn}
-use Rattle.label_sets.specs.Healing.{CanHealIn}
+use Rattle.label_sets.specs.Healing.{CanHealIn, IsHealedIn}
 use Rattle.label_sets.specs.Kept.{HasFewMembers, IsKept, IsKnownFree, IsKnownReady, shown}
 use Rattle.label_sets.specs.Room.{HasRoom}
 use Rattle.module_flips.specs.Sweeps.{HasSlotsWithin}
-use Rattle.label_sets.specs.Sets.{StoredSets, platform_in}
+use Rattle.label_sets.specs.Sets.{StoredSets, kept_in, platform_in}
 use Rattle.label_sets.specs.Staging.{OfRegion}
 use Rattle.label_sets.proofs.KnownReady.{ready-dropped, ready-kept}
 use Rattle.label_sets.proofs.EntryCounts.{counts-at, room-kept}
@@ -151,3 +155,28 @@ module _ (inside : Inside) (kept : IsKept inside) (ms : List LoadedModule) (rs :
       room-kept inside.modules.items now inside.regions.items regions_now inside.free (kept.room e) same-regions kept.over together.together.over
       (subst (λ ys. AllZip (KeepsRegion room_in) ys regions_now) n rooms)
       (counts-at inside.modules.items now (counts ∙ ap (map label_number) m) (together.dimms ∙ ap (map dimm_of) m))
+
+-- A pass over the lists in what is kept is one over what is seen of it.
+pub pass-seen : {R T : Type 0} {m : Ghosts R} {old new : R} {result : Result T AreaFailed} {hs : List ℕ} (inside : Inside) (sets : StoredSets) → shown inside ≡ sets → (ms : List LoadedModule) (rs : List RegionLabels) → ms ≡ inside.modules.items → rs ≡ inside.regions.items
+    → (now : List LoadedModule) (regions_now : List RegionLabels) (fits : StoredSets → Labels → Type 0) → IsPass hs (fits (record { regions = map region_in rs; modules = ms; room = inside.room })) m (kept_of ms rs) old (kept_of now regions_now) new result
+    → IsPass hs (fits sets) m (kept_in sets) old (record { modules = (with_items inside.modules now).items; regions = map region_in (with_items inside.regions regions_now).items }) new result
+pass-seen {R} {T} {m} {old} {new} {result} {hs} inside sets view ms rs same same_regions now regions_now fits pass =
+    let before : ◌≡◌ {A = StoredSets} (record { regions = map region_in rs; modules = ms; room = inside.room }) sets = (λ i. record { regions = map region_in (same_regions i); modules = same i; room = inside.room }) ∙ view in
+    let modules : now ≡ (with_items inside.modules now).items = sym (back-is inside.modules now ms same (same-count dimm_of now ms pass.dimms)) in
+    let regions : regions_now ≡ (with_items inside.regions regions_now).items = sym (back-is inside.regions regions_now rs same_regions (same-count region_in regions_now rs pass.regions)) in
+    let after : ◌≡◌ {A = Kept} (kept_of now regions_now) (record { modules = (with_items inside.modules now).items; regions = map region_in (with_items inside.regions regions_now).items }) = (λ i. record { modules = modules i; regions = map region_in (regions i) }) in
+    subst (λ (s : StoredSets). IsPass hs (fits s) m (kept_in s) old (record { modules = (with_items inside.modules now).items; regions = map region_in (with_items inside.regions regions_now).items }) new result) before
+    (subst (λ (k : Kept). IsPass hs (fits (record { regions = map region_in rs; modules = ms; room = inside.room })) m (kept_of ms rs) old k new result) after pass)
+
+-- what a heal makes of the lists, it makes of the state
+pub healed-in : (ms : List LoadedModule) (rs : List RegionLabels) (r : Region) (u : List ℕ) (now : List LoadedModule) (regions_now : List RegionLabels) → StaysTogether ms rs now regions_now → (room : Bool) → IsHealed ms rs r u now
+    → IsHealedIn (record { regions = map region_in rs; modules = ms; room = room }) (record { regions = map region_in rs; modules = now; room = room }) u r
+healed-in ms rs r u now regions_now together room healed = record {
+  same_table = healed.same_table;
+  marks = healed.marks;
+  alike = healed.alike;
+  heal = healed.heal;
+  others = healed.others;
+  elsewhere = healed.elsewhere;
+  same_free = healed.same_free;
+}

@@ -83,6 +83,8 @@ module _ (ms : List LoadedModule) (rs : List RegionLabels) (r : Region) (u name 
       writable = did.has_name.stands.writable;
       free = (can-still ms rs now regions_now r u can together did.same_free did.has_name.stands).free;
     };
+    label = did.has_name.label;
+    confined = did.has_name.confined;
     same_free = did.same_free;
   }
 

@@ -1,5 +1,5 @@
 -- What freeing the labels of a namespace of one of the regions asks and gives.
-use Rattle.std.specs.Prelude.{◌≡◌, ◌⊎◌, ℕ, ◌+◌, ◌<◌, true, List, Option, Some, length, map, slice_index_or}
+use Rattle.std.specs.Prelude.{◌≡◌, ℕ, ◌+◌, ◌<◌, true, List, Option, Some, length, map, slice_index_or}
 use Rattle.std.specs.List.{Contains}
 use Rattle.view_types.specs.declared.extents.Extent.{Extent}
 use Rattle.extent_alloc.specs.Free.{FreeSpace}
@@ -42,11 +42,6 @@ abbrev pub GainsSlots : StoredSets → StoredSets → Region → Type 0
 GainsSlots before after region = (place : ℕ) (d : LoadedModule) → place < length before.modules
     → free_slots (slice_index_or after.modules place d)
     ≡ free_slots (slice_index_or before.modules place d) + slot_of region (slice_index_or before.modules place d).dimm
-
--- or it is as before
-abbrev pub IsKeptOrDropped : StoredSets → StoredSets → List ℕ → Region → Type 0
-IsKeptOrDropped before after uuid region =
-    (state_in after ≡ state_in before) ⊎ IsDroppedIn before after uuid region
 
 -- A region stands at a place among the regions, and a namespace can be dropped there.
 pub record CanDropAt (modules : List LoadedModule) (regions : List RegionLabels) (free : Option (List FreeSpace))

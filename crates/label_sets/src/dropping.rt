@@ -1,19 +1,15 @@
 //! The second pass of destroying a namespace.
 
-ghost use Rattle.std.specs.Prelude.{◌≡◌, ◌<◌, IfSome, IsSome, OnOk, false, length, map};
-ghost use Rattle.std.specs.List.{All};
-ghost use Rattle.rig_trait.specs.Frames.{IsTold, LeavesOnly};
+ghost use Rattle.std.specs.Prelude.{◌≡◌, ◌<◌, IfSome, IsSome, OnOk, false, length};
 ghost use Rattle.region_map.specs.Platforms.{IsSound, region_at};
 ghost use Rattle.region_labels.specs.Fates.{platform_of};
-ghost use Rattle.region_labels.specs.Modules.{dimm_of, labels_in};
+ghost use Rattle.region_labels.specs.Modules.{labels_in};
 ghost use Rattle.region_labels.specs.Regions.{handles};
-ghost use Rattle.module_flips.specs.Flips.{IsSizedIn};
-ghost use Rattle.module_flips.specs.Stops.{HasAreaCause, LeftIn, WritesAmong};
-ghost use Rattle.module_flips.specs.Stored.{StandsIn};
 ghost use Rattle.module_flips.specs.Together.{IsTogether, StaysTogether};
 ghost use Rattle.namespace_passes.specs.Dropping.{IsBeforeOrWithout, IsDropped};
 ghost use Rattle.label_sets.specs.Dropping.{CanDropAt, HasAloneAt};
 ghost use Rattle.label_sets.specs.Kept.{IsKnownFree, IsKnownReady};
+ghost use Rattle.module_flips.specs.Passes.{AreSized, IsPass, kept_of};
 
 use crate::free::FreeExtents;
 use crate::sets::Sets;
@@ -26,11 +22,10 @@ use rig_trait::Rig;
 use view_types::Extent;
 
 impl Sets {
-    ghost use Rattle.region_labels.specs.Modules.{size_in};
     ghost use Rattle.label_sets.specs.Sets as sets;
-    ghost use Rattle.label_sets.specs.Sets.{platform_in};
+    ghost use Rattle.label_sets.specs.Sets.{kept_in, platform_in};
     ghost use Rattle.label_sets.specs.Staging.{OfRegion};
-    ghost use Rattle.label_sets.specs.Dropping.{CanDropIn, GainsSlots, HasNoneIn, IsDroppedIn, IsKeptOrDropped};
+    ghost use Rattle.label_sets.specs.Dropping.{CanDropIn, GainsSlots, HasNoneIn, IsDroppedIn};
 
     /// Frees the labels of a namespace, all of which are marked as being changed and none of which is read-only, by
     /// position and one flip each. By the first flip the namespace is gone; by the last no module of the region has a
@@ -48,26 +43,15 @@ impl Sets {
         requires platform { platform.now.regions ≡ self.old.regions }
         requires found { IsSome (region_at (platform_in self.old) region) }
         requires drop { OfRegion self.old region (CanDropIn self.old uuid.now) }
-        requires sized { IsTold R.Shown rig.old → All (IsSizedIn (R.areas rig.old)) self.old.modules }
+        requires sized { AreSized R.Shown rig.old self.old.modules }
         ensures dropped { OfRegion self.old region (λ found.
             OnOk result (IsDroppedIn self.old self.new uuid.now found)) }
         ensures none { OfRegion self.old region (λ found. OnOk result (HasNoneIn self.new uuid.now found)) }
         ensures slots { OfRegion self.old region (λ found. OnOk result (GainsSlots self.old self.new found)) }
-        ensures either { OfRegion self.old region (λ found. IsKeptOrDropped self.old self.new uuid.now found) }
-        ensures regions { self.new.regions ≡ self.old.regions }
         ensures room { self.new.room ≡ false }
-        ensures dimms { map dimm_of self.new.modules ≡ map dimm_of self.old.modules }
-        ensures sizes { map size_in self.new.modules ≡ map size_in self.old.modules }
-        ensures stands { IsTold R.Shown rig.old → All (StandsIn (R.areas rig.old)) self.old.modules
-            → OnOk result (All (StandsIn (R.areas rig.new)) self.new.modules) }
-        ensures any_moment { OfRegion self.old region (λ found. IsTold R.Shown rig.old
-            → All (StandsIn (R.areas rig.old)) self.old.modules
-            → LeavesOnly R.Shown rig.old rig.new (LeftIn (map dimm_of self.old.modules) (R.said rig.old)
-            (IsBeforeOrWithout (platform_in self.old) found uuid.now (sets.labels_in self.old)))) }
-        ensures writes_among { OfRegion self.old region (λ found. WritesAmong (handles found) R.Shown rig.old rig.new) }
-        ensures cause { OfRegion self.old region (λ found.
-            HasAreaCause (handles found) R.Shown rig.old rig.new result) }
-        ensures reads { R.reads rig.new ≡ R.reads rig.old }
+        ensures pass { OfRegion self.old region (λ found. IsPass (handles found)
+            (IsBeforeOrWithout (platform_in self.old) found uuid.now (sets.labels_in self.old))
+            R.Shown (kept_in self.old) rig.old (kept_in self.new) rig.new result) }
     {
         self.room = false;
         let (Some(found), Some(place)) = (platform.region(region), place_of(&self.regions, region))
@@ -100,20 +84,13 @@ fn drop_in<R: Rig>(
     uuid: &[u8; 16],
 ) -> Result<(), AreaFailed>
     requires drop { CanDropAt modules.old regions.old free.old ready place region.now uuid.now }
-    requires sized { IsTold R.Shown rig.old → All (IsSizedIn (R.areas rig.old)) modules.old }
+    requires sized { AreSized R.Shown rig.old modules.old }
     ensures dropped { OnOk result (IsDropped modules.old regions.old region.now uuid.now modules.new) }
-    ensures either { IsBeforeOrWithout (platform_of regions.old) region.now uuid.now (labels_in modules.old)
-        (labels_in modules.new) }
     ensures together { StaysTogether modules.old regions.old modules.new regions.new }
     ensures free { IsKnownFree modules.new regions.new free.new }
-    ensures stands { IsTold R.Shown rig.old → All (StandsIn (R.areas rig.old)) modules.old
-        → OnOk result (All (StandsIn (R.areas rig.new)) modules.new) }
-    ensures any_moment { IsTold R.Shown rig.old → All (StandsIn (R.areas rig.old)) modules.old
-        → LeavesOnly R.Shown rig.old rig.new (LeftIn (map dimm_of modules.old) (R.said rig.old)
-        (IsBeforeOrWithout (platform_of regions.old) region.now uuid.now (labels_in modules.old))) }
-    ensures writes_among { WritesAmong (handles region.now) R.Shown rig.old rig.new }
-    ensures cause { HasAreaCause (handles region.now) R.Shown rig.old rig.new result }
-    ensures reads { R.reads rig.new ≡ R.reads rig.old }
+    ensures pass { IsPass (handles region.now)
+        (IsBeforeOrWithout (platform_of regions.old) region.now uuid.now (labels_in modules.old))
+        R.Shown (kept_of modules.old regions.old) rig.old (kept_of modules.new regions.new) rig.new result }
 {
     let range = own_range(modules, regions, ready, place, uuid);
     match drop_labels(rig, modules, regions, region, uuid) {

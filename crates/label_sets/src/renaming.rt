@@ -1,15 +1,10 @@
 //! The first flip of renaming a namespace.
 
-ghost use Rattle.std.specs.Prelude.{◌≡◌, IsSome, OnErr, OnOk, map};
-ghost use Rattle.std.specs.List.{All};
-ghost use Rattle.rig_trait.specs.Frames.{IsTold, LeavesOnly};
+ghost use Rattle.std.specs.Prelude.{◌≡◌, IsSome, OnErr, OnOk};
 ghost use Rattle.region_map.specs.Platforms.{IsSound, region_at};
-ghost use Rattle.region_labels.specs.Modules.{dimm_of};
 ghost use Rattle.region_labels.specs.Regions.{handles};
-ghost use Rattle.module_flips.specs.Flips.{IsSizedIn};
-ghost use Rattle.module_flips.specs.Stops.{HasAreaCause, LeftIn, WritesAmong};
-ghost use Rattle.module_flips.specs.Stored.{StandsIn};
 ghost use Rattle.namespace_passes.specs.Renaming.{IsBeforeOrRenamed};
+ghost use Rattle.module_flips.specs.Passes.{AreSized, IsPass};
 
 use crate::sets::Sets;
 use module_flips::AreaFailed;
@@ -18,9 +13,8 @@ use region_map::Platform;
 use rig_trait::Rig;
 
 impl Sets {
-    ghost use Rattle.region_labels.specs.Modules.{size_in};
     ghost use Rattle.label_sets.specs.Sets as sets;
-    ghost use Rattle.label_sets.specs.Sets.{platform_in, state_in};
+    ghost use Rattle.label_sets.specs.Sets.{kept_in, platform_in, state_in};
     ghost use Rattle.label_sets.specs.Staging.{OfRegion};
     ghost use Rattle.label_sets.specs.Healing.{CanHealIn};
     ghost use Rattle.label_sets.specs.Renaming.{IsRenamedIn};
@@ -42,26 +36,15 @@ impl Sets {
         requires platform { platform.now.regions ≡ self.old.regions }
         requires found { IsSome (region_at (platform_in self.old) region) }
         requires rename { OfRegion self.old region (CanHealIn self.old uuid.now) }
-        requires sized { IsTold R.Shown rig.old → All (IsSizedIn (R.areas rig.old)) self.old.modules }
+        requires sized { AreSized R.Shown rig.old self.old.modules }
         ensures renamed { OfRegion self.old region (λ found.
             OnOk result (IsRenamedIn self.old self.new uuid.now name.now found)) }
         ensures kept { OnErr result (self.new ≡ self.old) }
-        ensures regions { self.new.regions ≡ self.old.regions }
         ensures room { self.new.room ≡ self.old.room }
-        ensures dimms { map dimm_of self.new.modules ≡ map dimm_of self.old.modules }
-        ensures sizes { map size_in self.new.modules ≡ map size_in self.old.modules }
-        ensures stands { IsTold R.Shown rig.old → All (StandsIn (R.areas rig.old)) self.old.modules
-            → OnOk result (All (StandsIn (R.areas rig.new)) self.new.modules) }
-        ensures any_moment { OfRegion self.old region (λ found. IsTold R.Shown rig.old
-            → All (StandsIn (R.areas rig.old)) self.old.modules
-            → LeavesOnly R.Shown rig.old rig.new (LeftIn (map dimm_of self.old.modules) (R.said rig.old)
-            (IsBeforeOrRenamed (platform_in self.old) found uuid.now name.now (sets.labels_in self.old)))) }
-        ensures writes_among { OfRegion self.old region (λ found. WritesAmong (handles found) R.Shown rig.old rig.new) }
-        ensures cause { OfRegion self.old region (λ found.
-            HasAreaCause (handles found) R.Shown rig.old rig.new result) }
-        ensures reads { R.reads rig.new ≡ R.reads rig.old }
+        ensures pass { OfRegion self.old region (λ found. IsPass (handles found)
+            (IsBeforeOrRenamed (platform_in self.old) found uuid.now name.now (sets.labels_in self.old))
+            R.Shown (kept_in self.old) rig.old (kept_in self.new) rig.new result) }
     {
-        self.ready = None;
         self.ready = None;
         match platform.region(region) {
             Some(found) => {

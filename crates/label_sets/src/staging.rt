@@ -1,21 +1,17 @@
 //! The first pass of making a namespace.
 
-ghost use Rattle.std.specs.Prelude.{◌≡◌, IsSome, OnErr, OnOk, false, map, true};
-ghost use Rattle.std.specs.List.{All};
-ghost use Rattle.rig_trait.specs.Frames.{IsTold, LeavesOnly};
+ghost use Rattle.std.specs.Prelude.{◌≡◌, IsSome, OnErr, OnOk, false, true};
 ghost use Rattle.region_map.specs.Platforms.{IsSound, region_at};
 ghost use Rattle.label_table.specs.Tables.{state, with_namespace};
 ghost use Rattle.region_labels.specs.Fates.{platform_of};
-ghost use Rattle.region_labels.specs.Modules.{dimm_of, labels_in};
+ghost use Rattle.region_labels.specs.Modules.{labels_in};
 ghost use Rattle.region_labels.specs.Regions.{handles};
-ghost use Rattle.module_flips.specs.Flips.{IsSizedIn};
-ghost use Rattle.module_flips.specs.Stops.{HasAreaCause, LeftIn, WritesAmong};
-ghost use Rattle.module_flips.specs.Stored.{StandsIn};
 ghost use Rattle.module_flips.specs.Together.{StaysTogether};
 ghost use Rattle.namespace_passes.specs.Staged.{IsBeforeOrWith, new_space};
-ghost use Rattle.namespace_passes.specs.Staging.{IsStaged};
+ghost use Rattle.namespace_passes.specs.Staging.{AreStaged, IsStaged};
 ghost use Rattle.label_sets.specs.Kept.{IsKnownFree};
 ghost use Rattle.label_sets.specs.Staging.{CanStageAt};
+ghost use Rattle.module_flips.specs.Passes.{AreSized, IsPass, kept_of};
 
 use crate::free::FreeExtents;
 use crate::sets::Sets;
@@ -28,9 +24,8 @@ use rig_trait::Rig;
 use view_types::Namespace;
 
 impl Sets {
-    ghost use Rattle.region_labels.specs.Modules.{size_in};
     ghost use Rattle.label_sets.specs.Sets as sets;
-    ghost use Rattle.label_sets.specs.Sets.{platform_in, state_in};
+    ghost use Rattle.label_sets.specs.Sets.{kept_in, platform_in, state_in};
     ghost use Rattle.label_sets.specs.Staging.{CanStageIn, GivesSlots, OfRegion};
 
     /// Puts a label of a new namespace, marked as being changed, into the module of each member of a region, by
@@ -50,25 +45,17 @@ impl Sets {
         requires found { IsSome (region_at (platform_in self.old) region) }
         requires stage { OfRegion self.old region (CanStageIn self.old space.now) }
         requires room { self.old.room ≡ true }
-        requires sized { IsTold R.Shown rig.old → All (IsSizedIn (R.areas rig.old)) self.old.modules }
+        requires sized { AreSized R.Shown rig.old self.old.modules }
         ensures staged { OfRegion self.old region (λ found. OnOk result
             (state_in self.new ≡ with_namespace found (new_space space.now) (state_in self.old))) }
         ensures slots { OfRegion self.old region (λ found. OnOk result (GivesSlots self.old self.new found)) }
+        ensures labels { OfRegion self.old region (λ found. OnOk result
+            (AreStaged found space.now (sets.labels_in self.new))) }
         ensures failed { OnErr result (state_in self.new ≡ state_in self.old) }
-        ensures regions { self.new.regions ≡ self.old.regions }
         ensures room { self.new.room ≡ false }
-        ensures dimms { map dimm_of self.new.modules ≡ map dimm_of self.old.modules }
-        ensures sizes { map size_in self.new.modules ≡ map size_in self.old.modules }
-        ensures stands { IsTold R.Shown rig.old → All (StandsIn (R.areas rig.old)) self.old.modules
-            → OnOk result (All (StandsIn (R.areas rig.new)) self.new.modules) }
-        ensures any_moment { OfRegion self.old region (λ found. IsTold R.Shown rig.old
-            → All (StandsIn (R.areas rig.old)) self.old.modules
-            → LeavesOnly R.Shown rig.old rig.new (LeftIn (map dimm_of self.old.modules) (R.said rig.old)
-            (IsBeforeOrWith (platform_in self.old) found (new_space space.now) (sets.labels_in self.old)))) }
-        ensures writes_among { OfRegion self.old region (λ found. WritesAmong (handles found) R.Shown rig.old rig.new) }
-        ensures cause { OfRegion self.old region (λ found.
-            HasAreaCause (handles found) R.Shown rig.old rig.new result) }
-        ensures reads { R.reads rig.new ≡ R.reads rig.old }
+        ensures pass { OfRegion self.old region (λ found. IsPass (handles found)
+            (IsBeforeOrWith (platform_in self.old) found (new_space space.now) (sets.labels_in self.old))
+            R.Shown (kept_in self.old) rig.old (kept_in self.new) rig.new result) }
     {
         self.room = false;
         self.ready = None;
@@ -100,20 +87,16 @@ fn stage_in<R: Rig>(
     space: &Namespace,
 ) -> Result<(), AreaFailed>
     requires stage { CanStageAt modules.old regions.old free.old place region.now space.now }
-    requires sized { IsTold R.Shown rig.old → All (IsSizedIn (R.areas rig.old)) modules.old }
+    requires sized { AreSized R.Shown rig.old modules.old }
     ensures staged { OnOk result (IsStaged modules.old regions.old region.now (new_space space.now) modules.new) }
+    ensures labels { OnOk result (AreStaged region.now space.now (labels_in modules.new)) }
     ensures failed { OnErr result (state (platform_of regions.old) (labels_in modules.new)
         ≡ state (platform_of regions.old) (labels_in modules.old)) }
     ensures together { StaysTogether modules.old regions.old modules.new regions.new }
     ensures free { IsKnownFree modules.new regions.new free.new }
-    ensures stands { IsTold R.Shown rig.old → All (StandsIn (R.areas rig.old)) modules.old
-        → OnOk result (All (StandsIn (R.areas rig.new)) modules.new) }
-    ensures any_moment { IsTold R.Shown rig.old → All (StandsIn (R.areas rig.old)) modules.old
-        → LeavesOnly R.Shown rig.old rig.new (LeftIn (map dimm_of modules.old) (R.said rig.old)
-        (IsBeforeOrWith (platform_of regions.old) region.now (new_space space.now) (labels_in modules.old))) }
-    ensures writes_among { WritesAmong (handles region.now) R.Shown rig.old rig.new }
-    ensures cause { HasAreaCause (handles region.now) R.Shown rig.old rig.new result }
-    ensures reads { R.reads rig.new ≡ R.reads rig.old }
+    ensures pass { IsPass (handles region.now)
+        (IsBeforeOrWith (platform_of regions.old) region.now (new_space space.now) (labels_in modules.old))
+        R.Shown (kept_of modules.old regions.old) rig.old (kept_of modules.new regions.new) rig.new result }
 {
     match stage_labels(rig, modules, regions, region, space) {
         Ok(()) => {

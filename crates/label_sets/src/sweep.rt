@@ -1,17 +1,13 @@
 //! Junk and dead labels of a module are freed.
 
-ghost use Rattle.std.specs.Prelude.{◌≡◌, ◌<◌, IfErr, IsTrue, OnErr, OnOk, length, map, slice_index_or};
-ghost use Rattle.std.specs.List.{All};
-ghost use Rattle.std.specs.Result.{is_err};
-ghost use Rattle.rig_trait.specs.Frames.{FailsAt, IsTold, LeavesOnly, WritesTo};
+ghost use Rattle.std.specs.Prelude.{◌≡◌, ◌∷◌, [], ◌<◌, IsTrue, OnErr, OnOk, length, slice_index_or};
 ghost use Rattle.label_codec.specs.ModuleLabels.{is_ready};
 ghost use Rattle.label_table.specs.Tables.{state};
 ghost use Rattle.region_labels.specs.declared.modules.LoadedModule.{LoadedModule};
-ghost use Rattle.region_labels.specs.Modules.{dimm_of, labels_in};
-ghost use Rattle.module_flips.specs.Flips.{IsReadyArea, IsSizedIn};
-ghost use Rattle.module_flips.specs.Stored.{StandsIn};
-ghost use Rattle.module_flips.specs.Stops.{LeftIn};
+ghost use Rattle.region_labels.specs.Modules.{labels_in};
+ghost use Rattle.module_flips.specs.Flips.{IsReadyArea};
 ghost use Rattle.module_flips.specs.Sweeps.{ChangesOnly};
+ghost use Rattle.module_flips.specs.Passes.{AreSized, IsPass};
 
 use crate::sets::Sets;
 use module_flips::{AreaFailed, sweep_labels};
@@ -21,9 +17,8 @@ use rig_trait::Rig;
 
 impl Sets {
     ghost use Rattle.label_codec.specs.ModuleLabels.{IsBounded};
-    ghost use Rattle.region_labels.specs.Modules.{size_in};
     ghost use Rattle.label_sets.specs.Sets as sets;
-    ghost use Rattle.label_sets.specs.Sets.{platform_in, state_in};
+    ghost use Rattle.label_sets.specs.Sets.{kept_in, platform_in, state_in};
     ghost use Rattle.std.specs.Prelude.{ℕ};
     ghost use Rattle.label_sets.specs.Sweeps.{IsFreeAsSpare, IsSweptAt};
 
@@ -38,25 +33,16 @@ impl Sets {
     ) -> Result<(), AreaFailed>
         requires platform { platform.now.regions ≡ self.old.regions }
         requires ready { IsTrue (is_ready (sets.labels_in self.old dimm).kind) }
-        requires sized { IsTold R.Shown rig.old → All (IsSizedIn (R.areas rig.old)) self.old.modules }
+        requires sized { AreSized R.Shown rig.old self.old.modules }
         ensures state { state_in self.new ≡ state_in self.old }
         ensures swept { OnOk result (IsSweptAt self.new dimm) }
         ensures spare { OnOk result (IsFreeAsSpare self.new dimm) }
         ensures others { ChangesOnly dimm self.old.modules self.new.modules }
         ensures kept { OnErr result (self.new ≡ self.old) }
-        ensures regions { self.new.regions ≡ self.old.regions }
         ensures room { self.new.room ≡ self.old.room }
-        ensures dimms { map dimm_of self.new.modules ≡ map dimm_of self.old.modules }
-        ensures sizes { map size_in self.new.modules ≡ map size_in self.old.modules }
-        ensures stands { IsTold R.Shown rig.old → All (StandsIn (R.areas rig.old)) self.old.modules
-            → OnOk result (All (StandsIn (R.areas rig.new)) self.new.modules) }
-        ensures any_moment { IsTold R.Shown rig.old → All (StandsIn (R.areas rig.old)) self.old.modules
-            → LeavesOnly R.Shown rig.old rig.new (LeftIn (map dimm_of self.old.modules) (R.said rig.old)
-            (λ labels. state (platform_in self.old) labels ≡ state_in self.old)) }
-        ensures writes_only { WritesTo dimm R.Shown rig.old rig.new }
-        ensures cause { FailsAt dimm R.Shown rig.old rig.new (is_err result) }
-        ensures names { IfErr result (λ failed. failed.dimm ≡ dimm) }
-        ensures reads { R.reads rig.new ≡ R.reads rig.old }
+        ensures pass { IsPass (dimm ∷ []) (λ labels. state (platform_in self.old) labels ≡ state_in self.old)
+            R.Shown (kept_in self.old) rig.old (kept_in self.new) rig.new result }
+        ensures idle { IsSweptAt self.old dimm → rig.new ≡ rig.old }
     {
         let seat = seat_of(&self.modules, dimm);
         if let Err(failed) = sweep_labels(

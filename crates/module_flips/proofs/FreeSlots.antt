@@ -1,4 +1,4 @@
--- How many slots of a module are free after a label is put there.
+-- How many slots of a module are free after a label is put there, or one is freed.
 use Rattle.std.proofs.Common.{◌≡◌, ◌≢◌, ◌⊎◌, inl, inr, ℕ, zero, suc, ◌+◌, ◌<◌, ◌≤◌, Bool, true, false, cond, not, ◌&&◌, ◌||◌, eqb, List, [], ◌∷◌, length, Option, Some, None, refl, sym, ap, subst, ◌∙◌, eq-eqb, arith}
 use Rattle.std.specs.Prelude.{IsSome, find, nat_lt, unwrap_or}
 use Rattle.std.specs.List.{range_with_len}
@@ -13,7 +13,7 @@ use Rattle.region_labels.specs.declared.modules.LoadedModule.{LoadedModule}
 use Rattle.region_labels.specs.declared.modules.ModuleArea.{ModuleArea}
 use Rattle.region_labels.specs.declared.modules.ModuleArea.TheVariants.{Missing, WrongSize, Uninit, Foreign, Ready}
 use Rattle.region_labels.specs.Modules.{module_in}
-use Rattle.module_flips.specs.Flips.{HasFreeIn, HasLabelsInUse, IsReplaced, first_slot_in, is_used_in, standing_in, with_put}
+use Rattle.module_flips.specs.Flips.{HasFreeIn, HasLabelsInUse, IsReplaced, first_slot_in, is_used_in, standing_in, with_free, with_put}
 use Rattle.module_flips.specs.Together.{free_slots}
 
 apart : {A : Type 0} → false ≡ true → A
@@ -154,3 +154,16 @@ module _ (here : LoadedModule) (label : Label) (has : HasFreeIn here.area) (in_u
       let after : free_slots now + used_count (is_used_in now) all ≡ all = subst (λ n. free_slots now + used_count (is_used_in now) n ≡ n) slots (free-and-used now) in
       let more : used_count (is_used_in now) all + length (replaced replaces) ≡ used_count (is_used_in here) all + 1 = counted (is_used_in now) replaces there (λ k. ap (λ (s : Standing). s.used k) put) in
       omega (arith, before, after, more)
+
+-- a slot in use that is freed is one more
+pub one-freed : (here now : LoadedModule) (slot : ℕ) → slot < (module_in here).slots → is_used_in here slot ≡ true → standing_in now ≡ with_free (slot ∷ []) (standing_in here) → free_slots now ≡ free_slots here + 1
+one-freed here now slot lt used freed =
+    let all : ℕ = (module_in here).slots in
+    let slots : (module_in now).slots ≡ all = ap (λ (s : Standing). s.labels.slots) freed in
+    let used_is : (k : ℕ) → is_used_in now k ≡ (not (is_among (slot ∷ []) k) && is_used_in here k) = λ k. ap (λ (s : Standing). s.used k) freed in
+    let gone : is_used_in now slot ≡ false = used_is slot ∙ ap (λ b. not (b || false) && is_used_in here slot) (eq-eqb slot slot refl) in
+    let less : used_count (is_used_in here) all ≡ used_count (is_used_in now) all + 1 =
+    one-more (is_used_in now) (is_used_in here) slot all lt gone used (λ k differ. sym (used_is k ∙ ap (λ b. not (b || false) && is_used_in here k) (ne_eqb k slot differ))) in
+    let before : free_slots here + used_count (is_used_in here) all ≡ all = free-and-used here in
+    let after : free_slots now + used_count (is_used_in now) all ≡ all = subst (λ n. free_slots now + used_count (is_used_in now) n ≡ n) slots (free-and-used now) in
+    omega (arith, before, after, less)

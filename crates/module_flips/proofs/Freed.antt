@@ -1,5 +1,5 @@
 -- Slots of the module at a seat are freed.
-use Rattle.std.proofs.Common.{◌≡◌, ◌≢◌, inl, inr, ℕ, ◌<◌, false, true, eq-eqb, List, length, get_or, set, map, refl, sym, ap, subst, ◌∙◌, arith}
+use Rattle.std.proofs.Common.{◌≡◌, ◌≢◌, inl, inr, ℕ, ◌<◌, false, true, eq-eqb, List, [], ◌∷◌, length, get_or, set, map, refl, sym, ap, subst, ◌∙◌, arith}
 use Rattle.std.specs.FinMap.{get}
 use Rattle.std.specs.List.{All}
 use Rattle.std.specs.Prelude.{◌==◌}
@@ -28,7 +28,8 @@ use Rattle.region_labels.proofs.AreaFlips.{IsBoundedModule, loses-slots}
 use Rattle.region_labels.proofs.ChangedModules.{changed-set, dimm-at, labels-after, labels-at}
 use Rattle.module_flips.specs.Flips.{CanFree, HasLabelsInUse, is_used_by, standing_in, with_free, without_slots_at}
 use Rattle.module_flips.specs.Stored.{StandsIn, StoredAs}
-use Rattle.module_flips.specs.Stops.{IsOneOf, LeftIn}
+use Rattle.module_flips.specs.Passes.{LeftByPass}
+use Rattle.module_flips.specs.Stops.{IsOneOf}
 use Rattle.module_flips.proofs.Standing.{stands}
 use Rattle.module_flips.proofs.Turned.{one_flip}
 
@@ -106,13 +107,13 @@ module _ (ms : List LoadedModule) (seat : ℕ) (lt : seat < length ms) (once : E
     -- what a stop leaves
     pub either-left : {R : Type 0} (m : Ghosts R) (old after : R) → All (StandsIn (m.areas old)) ms
         → (StandsIn (m.areas old) here → LeavesOnly m old after (LeftByFlip (m.areas old) (m.said old) here.dimm (with_free slots (standing_in here))))
-        → LeavesOnly m old after (LeftIn (map dimm_of ms) (m.said old) (IsOneOf (labels_in ms) (without_slots_at (dimm_at ms seat) slots (labels_in ms))))
-    either-left m old after all flip = one_flip (map dimm_of ms) (IsOneOf (labels_in ms) (without_slots_at (dimm_at ms seat) slots (labels_in ms))) here.dimm (with_free slots (standing_in here)) (labels_in ms)
+        → LeavesOnly m old after (LeftByPass (dimm_at ms seat ∷ []) (map dimm_of ms) (m.said old) (m.areas old) (IsOneOf (labels_in ms) (without_slots_at (dimm_at ms seat) slots (labels_in ms))))
+    either-left m old after all flip = subst (λ h. LeavesOnly m old after (LeftByPass (h ∷ []) (map dimm_of ms) (m.said old) (m.areas old) (IsOneOf (labels_in ms) (without_slots_at (dimm_at ms seat) slots (labels_in ms))))) (sym seat-dimm) (one_flip (map dimm_of ms) (IsOneOf (labels_in ms) (without_slots_at (dimm_at ms seat) slots (labels_in ms))) here.dimm (with_free slots (standing_in here)) (labels_in ms)
         (stands ms (m.areas old) all)
         (list_any_at (λ h. h == here.dimm) (map dimm_of ms) seat 0 (subst (λ n. seat < n) (sym (length-map ms dimm_of)) lt) (eq-eqb (get_or (map dimm_of ms) seat 0) here.dimm seat-dimm))
         (flip (subst (StandsIn (m.areas old)) (at-seat here) (all seat here lt)))
         (inl refl)
-        (inr (ap (λ (area : Module). with_module here.dimm area (labels_in ms)) (ap (without_slots (is_among slots)) (sym own-labels)) ∙ ap (λ h. with_module h (without_slots (is_among slots) (labels_in ms (dimm_at ms seat))) (labels_in ms)) (sym seat-dimm)))
+        (inr (ap (λ (area : Module). with_module here.dimm area (labels_in ms)) (ap (without_slots (is_among slots)) (sym own-labels)) ∙ ap (λ h. with_module h (without_slots (is_among slots) (labels_in ms (dimm_at ms seat))) (labels_in ms)) (sym seat-dimm))))
 
     module _ (freed : standing_in new ≡ with_free slots (standing_in here)) where
       now-labels : module_in new ≡ without_slots (is_among slots) (module_in here)

@@ -1,11 +1,13 @@
 pub mod Stored
 pub mod Standing
 pub mod Turned
+pub mod Passes
 pub mod Flipped
 pub mod Freed
 pub mod FreeSlots
 pub mod Put
 pub mod Together
+pub mod OnePass
 pub mod Slots
 pub mod Freeing
 pub mod Swept

@@ -1,5 +1,5 @@
 -- A label is put into the module at a seat.
-use Rattle.std.proofs.Common.{◌≡◌, inl, inr, ℕ, ◌<◌, Bool, true, false, cond, eqb, List, [], length, get_or, set, map, Option, Some, None, refl, sym, ap, subst, ◌∙◌, eq-eqb, arith}
+use Rattle.std.proofs.Common.{◌≡◌, inl, inr, ℕ, ◌<◌, Bool, true, false, cond, eqb, List, [], ◌∷◌, length, get_or, set, map, Option, Some, None, refl, sym, ap, subst, ◌∙◌, eq-eqb, arith}
 use Rattle.std.specs.List.{All, cons_option}
 use Rattle.std.specs.Option.{option_map}
 use Rattle.std.specs.Prelude.{◌==◌, IfSome, IsSome}
@@ -28,7 +28,8 @@ use Rattle.region_labels.proofs.AreaFlips.{loses-slots}
 use Rattle.region_labels.proofs.ChangedModules.{labels-after}
 use Rattle.module_flips.specs.Flips.{CanPut, first_slot_in, standing_in, with_put, with_put_at}
 use Rattle.module_flips.specs.Stored.{StandsIn}
-use Rattle.module_flips.specs.Stops.{IsOneOf, LeftIn}
+use Rattle.module_flips.specs.Passes.{LeftByPass}
+use Rattle.module_flips.specs.Stops.{IsOneOf}
 use Rattle.module_flips.proofs.Freed.{at-seat, changed, in_use-bounded, new-at, own-labels, seat-dimm}
 use Rattle.module_flips.proofs.Standing.{stands}
 use Rattle.module_flips.proofs.Turned.{one_flip}
@@ -95,13 +96,13 @@ module _ (ms : List LoadedModule) (seat : ℕ) (lt : seat < length ms) (once : E
   -- what a stop leaves
   pub either-put : {R : Type 0} (m : Ghosts R) (old now : R) → All (StandsIn (m.areas old)) ms
       → (StandsIn (m.areas old) here → LeavesOnly m old now (LeftByFlip (m.areas old) (m.said old) here.dimm (with_put slot label replaces (standing_in here))))
-      → LeavesOnly m old now (LeftIn (map dimm_of ms) (m.said old) (IsOneOf (labels_in ms) (with_put_at (dimm_at ms seat) slot label replaces (labels_in ms))))
-  either-put m old now all flip = one_flip (map dimm_of ms) (IsOneOf (labels_in ms) (with_put_at (dimm_at ms seat) slot label replaces (labels_in ms))) here.dimm (with_put slot label replaces (standing_in here)) (labels_in ms)
+      → LeavesOnly m old now (LeftByPass (dimm_at ms seat ∷ []) (map dimm_of ms) (m.said old) (m.areas old) (IsOneOf (labels_in ms) (with_put_at (dimm_at ms seat) slot label replaces (labels_in ms))))
+  either-put m old now all flip = subst (λ h. LeavesOnly m old now (LeftByPass (h ∷ []) (map dimm_of ms) (m.said old) (m.areas old) (IsOneOf (labels_in ms) (with_put_at (dimm_at ms seat) slot label replaces (labels_in ms))))) (sym (seat-dimm ms seat lt once x new is dimm)) (one_flip (map dimm_of ms) (IsOneOf (labels_in ms) (with_put_at (dimm_at ms seat) slot label replaces (labels_in ms))) here.dimm (with_put slot label replaces (standing_in here)) (labels_in ms)
       (stands ms (m.areas old) all)
       (list_any_at (λ h. h == here.dimm) (map dimm_of ms) seat 0 (subst (λ n. seat < n) (sym (length-map ms dimm_of)) lt) (eq-eqb (get_or (map dimm_of ms) seat 0) here.dimm (seat-dimm ms seat lt once x new is dimm)))
       (flip (subst (StandsIn (m.areas old)) (at-seat ms seat lt once x new is dimm here) (all seat here lt)))
       (inl refl)
-      (inr ((λ i. with_module (sym (seat-dimm ms seat lt once x new is dimm) i) (labels_flip.with_label slot (at_slot slot label) (without_slots (is_among (replaced replaces)) (sym (own-labels ms seat lt once x new is dimm) i))) (labels_in ms))))
+      (inr ((λ i. with_module (sym (seat-dimm ms seat lt once x new is dimm) i) (labels_flip.with_label slot (at_slot slot label) (without_slots (is_among (replaced replaces)) (sym (own-labels ms seat lt once x new is dimm) i))) (labels_in ms)))))
 
   module _ (put : standing_in new ≡ with_put slot label replaces (standing_in here)) where
     now-labels : module_in new ≡ after

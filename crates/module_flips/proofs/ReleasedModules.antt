@@ -1,9 +1,7 @@
 -- All modules and regions once a module has given up its held labels with a uuid, and what a stop leaves.
-use Rattle.std.proofs.Common.{◌≡◌, inl, inr, ℕ, ◌<◌, false, List, length, get_or, map, refl, sym, ap, subst, ◌∙◌}
+use Rattle.std.proofs.Common.{◌≡◌, inl, inr, ℕ, ◌<◌, false, List, length, get_or, sym, ap, subst, ◌∙◌}
 use Rattle.std.specs.Prelude.{◌||◌, Some}
 use Rattle.std.specs.List.{All, AllZip}
-use Rattle.rig_trait.specs.declared.shown.Shown.{Ghosts}
-use Rattle.rig_trait.specs.Frames.{LeavesOnly}
 use Rattle.label_codec.specs.declared.label.Label.{Label}
 use Rattle.label_codec.specs.ModuleLabels.{Labels, Module, has, number}
 use Rattle.label_area.specs.Flips.{is_among}
@@ -19,7 +17,7 @@ use Rattle.region_labels.specs.Changes.{dimm_at}
 use Rattle.region_labels.specs.Rooms.{KeepsRegion}
 use Rattle.region_labels.proofs.ChangedModules.{dimm-at, labels-at}
 use Rattle.module_flips.specs.Flips.{IsFreedAt, standing_in, with_free, without_slots_at}
-use Rattle.module_flips.specs.Stops.{IsOneOf, LeftIn}
+use Rattle.module_flips.specs.Stops.{IsOneOf}
 use Rattle.module_flips.specs.Together.{IsTogether}
 use Rattle.module_flips.proofs.Together.{same-regions}
 use Rattle.module_flips.specs.Releases.{IsBeforeOrReleased, IsReleasedTo, has_or_is_dead, released_slots, released_state}
@@ -27,7 +25,6 @@ use Rattle.module_flips.specs.Sweeps.{IsSwept}
 use Rattle.module_flips.proofs.FreedModules.{get_or-any, others-stay, stays-together}
 use Rattle.module_flips.proofs.Released.{count-held, dead-otherwise, or_neither, state-released}
 use Rattle.module_flips.proofs.Sweeping.{all-bounded, among-label, swept}
-use Rattle.module_flips.proofs.SweptModules.{left-by-flip}
 
 module _ (ms : List LoadedModule) (rs : List RegionLabels) (seat : ℕ) (lt : seat < length ms) (together : IsTogether ms rs) (u : List ℕ) (some : 0 < held_count (platform_of rs) (labels_in ms) (dimm_at ms seat) (has u)) (x : LoadedModule) where
   abbrev P : Platform
@@ -67,13 +64,12 @@ module _ (ms : List LoadedModule) (rs : List RegionLabels) (seat : ℕ) (lt : se
       let alive = or_neither (has u l) (is_dead P L here.dimm l) neither in
       dead-otherwise P L (all-bounded ms together.in_use) (dimm_at ms seat) u some together.disjoint (is_among freed_slots) each here.dimm l alive.0 ∙ alive.1
 
-  -- what a stop leaves stands for the state before, or for that without these labels
-  pub keeps-or-releases : {R : Type 0} (m : Ghosts R) (old new : R) (slots : List ℕ) → slots ≡ freed_slots
-      → LeavesOnly m old new (LeftIn (map dimm_of ms) (m.said old) (IsOneOf L (without_slots_at (dimm_at ms seat) slots L)))
-      → LeavesOnly m old new (LeftIn (map dimm_of ms) (m.said old) (IsBeforeOrReleased P (dimm_at ms seat) u L))
-  keeps-or-releases m old new slots same leaves =
-      left-by-flip m old new (map dimm_of ms) (m.said old) (IsBeforeOrReleased P (dimm_at ms seat) u L) L (without_slots_at (dimm_at ms seat) slots L) (inl refl)
-      (inr (ap (λ ss. state P (without_slots_at (dimm_at ms seat) ss L)) same ∙ left-state)) leaves
+  -- labels before the release, or after it
+  pub keeps-or-releases : (slots : List ℕ) → slots ≡ freed_slots → (labels : Labels) → IsOneOf L (without_slots_at (dimm_at ms seat) slots L) labels → IsBeforeOrReleased P (dimm_at ms seat) u L labels
+  keeps-or-releases slots same labels one = elim one [
+    | inl e ↦ inl (ap (state P) e)
+    | inr e ↦ inr (ap (state P) e ∙ ap (λ ss. state P (without_slots_at (dimm_at ms seat) ss L)) same ∙ left-state)
+  ]
 
   module _ (now : List LoadedModule) (regions : List RegionLabels) (freed : IsFreedAt ms now seat freed_slots) (labels : labels_in now ≡ left) (room : RegionLabels → ℕ) (kept : AllZip (KeepsRegion room) rs regions)
       (over : All (IsOver now) regions) where

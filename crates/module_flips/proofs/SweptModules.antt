@@ -1,11 +1,8 @@
 -- All modules and regions after a sweep of one module, and what a stop leaves.
-use Rattle.std.proofs.Common.{◌≡◌, inl, inr, ℕ, ◌<◌, ◌≤◌, true, [], List, length, get_or, map, refl, sym, ap, subst, ◌∙◌, arith}
+use Rattle.std.proofs.Common.{◌≡◌, inl, inr, ℕ, zero, suc, ◌<◌, ◌≤◌, ◌&&◌, ◌++◌, Bool, true, false, cond, is_some, [], ◌∷◌, List, length, get_or, Option, Some, None, refl, sym, ap, subst, ◌∙◌, arith}
 use Rattle.std.specs.List.{All, AllZip}
 use Rattle.std.specs.Option.{option_map_or}
 use Rattle.std.proofs.lemmas.Bool.{and_parts}
-use Rattle.rig_trait.specs.declared.shown.Shown.{Ghosts}
-use Rattle.rig_trait.specs.Frames.{LeavesOnly}
-use Rattle.rig_trait.proofs.Moments.{weakened}
 use Rattle.label_codec.specs.declared.label.Label.{Label}
 use Rattle.label_codec.specs.ModuleLabels.{Labels, Module}
 use Rattle.label_area.specs.Flips.{is_among}
@@ -20,26 +17,23 @@ use Rattle.region_labels.specs.Regions.{IsOver}
 use Rattle.region_labels.specs.Changes.{dimm_at}
 use Rattle.region_labels.specs.Rooms.{KeepsRegion}
 use Rattle.region_labels.proofs.ChangedModules.{dimm-at, labels-at}
-use Rattle.module_flips.specs.Flips.{IsFreedAt, standing_in, with_free, without_slots_at}
-use Rattle.module_flips.specs.Stops.{IsOneOf, LeftIn}
+use Rattle.module_flips.specs.Flips.{IsFreedAt, is_used_in, standing_in, with_free, without_slots_at}
+use Rattle.module_flips.specs.Stops.{IsOneOf}
 use Rattle.module_flips.specs.Together.{IsTogether}
 use Rattle.module_flips.proofs.Together.{same-regions}
-use Rattle.module_flips.specs.Sweeps.{IsSwept, IsSweptTo, is_dead_of, is_unwanted, unwanted_slots}
+use Rattle.module_flips.specs.Sweeps.{IsSwept, IsSweptTo, is_dead_of, is_unwanted, slots_below, unwanted_slots}
 use Rattle.module_flips.proofs.FreedModules.{get_or-any, no-more-entries, others-stay, stays-together}
 use Rattle.module_flips.proofs.Slots.{among-true}
 use Rattle.module_flips.proofs.Sweeping.{all-bounded, swept}
 use Rattle.module_flips.proofs.Unwanted.{dead-as-before, state-kept}
 
--- what two labels fit, a stop leaves that leaves one of them
-pub left-by-flip : {R : Type 0} (m : Ghosts R) (old new : R) (modules said : List ℕ) (fits : Labels → Type 0) (before after : Labels) → fits before → fits after → LeavesOnly m old new (LeftIn modules said (IsOneOf before after))
-    → LeavesOnly m old new (LeftIn modules said fits)
-left-by-flip m old new modules said fits before after fits_before fits_after leaves = weakened _ (LeftIn modules said fits) (λ c left. record {
-  said_is = left.said_is;
-  labels = λ fair. elim (left.labels fair) [
-    | inl e ↦ subst fits (sym e) fits_before
-    | inr e ↦ subst fits (sym e) fits_after
-  ];
-}) leaves
+none-below : (test : ℕ → Bool) (n : ℕ) → ((k : ℕ) → test k ≡ false) → slots_below test n ≡ []
+none-below test zero none = refl
+none-below test (suc n) none = (λ i. none-below test n none i ++ (cond (none n i) (n ∷ []) []))
+
+and-false : (b : Bool) → (b && false) ≡ false
+and-false true = refl
+and-false false = refl
 
 module _ (ms : List LoadedModule) (rs : List RegionLabels) (seat : ℕ) (lt : seat < length ms) (together : IsTogether ms rs) (x : LoadedModule) where
   abbrev P : Platform
@@ -83,13 +77,23 @@ module _ (ms : List LoadedModule) (rs : List RegionLabels) (seat : ℕ) (lt : se
     entries = λ place d p_lt. record { region = refl; entries = omega arith; room = omega arith };
   }
 
-  -- what a stop leaves stands for the same state
-  pub keeps-state : {R : Type 0} (m : Ghosts R) (old new : R) (slots : List ℕ) → slots ≡ freed_slots
-      → LeavesOnly m old new (LeftIn (map dimm_of ms) (m.said old) (IsOneOf L (without_slots_at (dimm_at ms seat) slots L)))
-      → LeavesOnly m old new (LeftIn (map dimm_of ms) (m.said old) (λ labels. state P labels ≡ state P L))
-  keeps-state m old new slots same leaves =
-      left-by-flip m old new (map dimm_of ms) (m.said old) (λ labels. state P labels ≡ state P L) L (without_slots_at (dimm_at ms seat) slots L) refl
-      (ap (λ ss. state P (without_slots_at (dimm_at ms seat) ss L)) same ∙ left-state) leaves
+  -- labels before the sweep, or after it, stand for the same state
+  pub keeps-state : (slots : List ℕ) → slots ≡ freed_slots → (labels : Labels) → IsOneOf L (without_slots_at (dimm_at ms seat) slots L) labels → state P labels ≡ state P L
+  keeps-state slots same labels one = elim one [
+    | inl e ↦ ap (state P) e
+    | inr e ↦ ap (state P) e ∙ ap (λ ss. state P (without_slots_at (dimm_at ms seat) ss L)) same ∙ left-state
+  ]
+
+  -- a module that is swept has no slot to be freed
+  pub none-unwanted : ((d : LoadedModule) → IsSwept P L (get_or ms seat d)) → freed_slots ≡ []
+  none-unwanted clean = none-below (is_unwanted (is_dead_of P L here) here) (module_in here).slots (λ k. by k ((module_in here).at k) refl)
+    where
+      swept_here : IsSwept P L here
+      swept_here = clean x
+
+      by : (k : ℕ) (o : Option Label) → (module_in here).at k ≡ o → is_unwanted (is_dead_of P L here) here k ≡ false
+      by k None e = ap (λ b. b && option_map_or (is_dead_of P L here) ((module_in here).at k) true) (swept_here.no_junk k ∙ ap is_some e)
+      by k (Some l) e = ap (λ o. is_used_in here k && option_map_or (is_dead_of P L here) o true) e ∙ ap (λ b. is_used_in here k && b) (swept_here.no_dead k l e) ∙ and-false (is_used_in here k)
 
   module _ (now : List LoadedModule) (regions : List RegionLabels) (freed : IsFreedAt ms now seat freed_slots) (labels : labels_in now ≡ left) (room : RegionLabels → ℕ) (kept : AllZip (KeepsRegion room) rs regions)
       (over : All (IsOver now) regions) (grows : (r : RegionLabels) → r.index.room ≤ room r) where

@@ -1,12 +1,12 @@
 //! One flip of one module.
 
-ghost use Rattle.std.specs.Prelude.{◌≡◌, ◌+◌, ◌<◌, IfErr, IfOk, IsTrue, None, OnErr, OnOk, length, map, slice_index_or};
+ghost use Rattle.std.specs.Prelude.{◌≡◌, ◌+◌, ◌<◌, ◌∷◌, IfErr, IfOk, IsTrue, None, OnErr, OnOk, [], length, slice_index_or};
 ghost use Rattle.std.specs.List.{All, AllZip};
 ghost use Rattle.std.specs.Result.{is_err};
 ghost use Rattle.rig_trait.specs.Frames.{FailsAt, IsTold, LeavesOnly, WritesTo};
 ghost use Rattle.label_area.specs.Flips.{LeftByFlip, replaced};
 ghost use Rattle.region_labels.specs.declared.modules.LoadedModule.{LoadedModule};
-ghost use Rattle.region_labels.specs.Modules.{EachOnce, dimm_of, labels_in, module_in, size_in};
+ghost use Rattle.region_labels.specs.Modules.{EachOnce, labels_in, module_in, size_in};
 ghost use Rattle.region_labels.specs.Regions.{IsOver};
 ghost use Rattle.region_labels.specs.Changes.{dimm_at};
 ghost use Rattle.region_labels.specs.Rooms.{HasRoomFor, KeepsRegion, room_after_free, room_after_put};
@@ -15,7 +15,8 @@ ghost use Rattle.module_flips.specs.Flips.{CanFree, IsFreedAt, IsOwn, IsReadyAre
 ghost use Rattle.module_flips.specs.Flips.{HasFreeIn, IsPutAt, IsReplaced, first_slot_in, with_free, with_put};
 ghost use Rattle.module_flips.specs.Flips.{with_put_at, without_slots_at};
 ghost use Rattle.module_flips.specs.Stored.{StandsIn};
-ghost use Rattle.module_flips.specs.Stops.{IsOneOf, LeftIn};
+ghost use Rattle.module_flips.specs.Stops.{IsOneOf};
+ghost use Rattle.module_flips.specs.Passes.{AreSized, IsPass, kept_of};
 ghost use Rattle.module_flips.specs.Together.{IsTogether, StaysTogether, free_slots};
 
 use label_codec::Label;
@@ -78,7 +79,7 @@ pub fn free_at<R: Rig>(
     requires free { (d : LoadedModule) → CanFree (slice_index_or modules.old seat d) slots.now lost.now }
     requires once { EachOnce modules.old }
     requires over { All (IsOver modules.old) regions.old }
-    requires sized { IsTold R.Shown rig.old → All (IsSizedIn (R.areas rig.old)) modules.old }
+    requires sized { AreSized R.Shown rig.old modules.old }
     ensures freed { OnOk result (IsFreedAt modules.old modules.new seat slots.now) }
     ensures labels { OnOk result (labels_in modules.new
         ≡ without_slots_at (dimm_at modules.old seat) slots.now (labels_in modules.old)) }
@@ -87,16 +88,9 @@ pub fn free_at<R: Rig>(
         regions.old regions.new) }
     ensures kept { OnErr result (modules.new ≡ modules.old) }
     ensures kept_regions { OnErr result (regions.new ≡ regions.old) }
-    ensures stands { IsTold R.Shown rig.old → All (StandsIn (R.areas rig.old)) modules.old
-        → OnOk result (All (StandsIn (R.areas rig.new)) modules.new) }
-    ensures any_moment { IsTold R.Shown rig.old → All (StandsIn (R.areas rig.old)) modules.old
-        → LeavesOnly R.Shown rig.old rig.new (LeftIn (map dimm_of modules.old) (R.said rig.old)
-        (IsOneOf (labels_in modules.old)
-        (without_slots_at (dimm_at modules.old seat) slots.now (labels_in modules.old)))) }
-    ensures writes_only { WritesTo (dimm_at modules.old seat) R.Shown rig.old rig.new }
-    ensures cause { FailsAt (dimm_at modules.old seat) R.Shown rig.old rig.new (is_err result) }
-    ensures names { IfErr result (λ failed. failed.dimm ≡ dimm_at modules.old seat) }
-    ensures reads { R.reads rig.new ≡ R.reads rig.old }
+    ensures pass { IsPass (dimm_at modules.old seat ∷ []) (IsOneOf (labels_in modules.old)
+        (without_slots_at (dimm_at modules.old seat) slots.now (labels_in modules.old)))
+        R.Shown (kept_of modules.old regions.old) rig.old (kept_of modules.new regions.new) rig.new result }
 {
     match free_in(rig, &mut modules[seat], slots) {
         Ok(()) => {
@@ -166,7 +160,7 @@ pub fn put_at<R: Rig>(
     requires free { (d : LoadedModule) → HasFreeIn (slice_index_or modules.old seat d).area }
     requires replaces { (d : LoadedModule) → IsReplaced (slice_index_or modules.old seat d) replaces }
     requires room { replaces ≡ None → All (HasRoomFor (dimm_at modules.old seat)) regions.old }
-    requires sized { IsTold R.Shown rig.old → All (IsSizedIn (R.areas rig.old)) modules.old }
+    requires sized { AreSized R.Shown rig.old modules.old }
     ensures put { OnOk result (IsPutAt modules.old modules.new seat label.now replaces) }
     ensures labels { (d : LoadedModule) → OnOk result (labels_in modules.new
         ≡ with_put_at (dimm_at modules.old seat) (first_slot_in (slice_index_or modules.old seat d)) label.now replaces
@@ -183,16 +177,10 @@ pub fn put_at<R: Rig>(
         (replaced_label (module_in (slice_index_or modules.old seat d)) replaces))) regions.old regions.new) }
     ensures kept { OnErr result (modules.new ≡ modules.old) }
     ensures kept_regions { OnErr result (regions.new ≡ regions.old) }
-    ensures stands { IsTold R.Shown rig.old → All (StandsIn (R.areas rig.old)) modules.old
-        → OnOk result (All (StandsIn (R.areas rig.new)) modules.new) }
-    ensures any_moment { (d : LoadedModule) → IsTold R.Shown rig.old → All (StandsIn (R.areas rig.old)) modules.old
-        → LeavesOnly R.Shown rig.old rig.new (LeftIn (map dimm_of modules.old) (R.said rig.old)
-        (IsOneOf (labels_in modules.old) (with_put_at (dimm_at modules.old seat)
-        (first_slot_in (slice_index_or modules.old seat d)) label.now replaces (labels_in modules.old)))) }
-    ensures writes_only { WritesTo (dimm_at modules.old seat) R.Shown rig.old rig.new }
-    ensures cause { FailsAt (dimm_at modules.old seat) R.Shown rig.old rig.new (is_err result) }
-    ensures names { IfErr result (λ failed. failed.dimm ≡ dimm_at modules.old seat) }
-    ensures reads { R.reads rig.new ≡ R.reads rig.old }
+    ensures pass { (d : LoadedModule) → IsPass (dimm_at modules.old seat ∷ []) (IsOneOf (labels_in modules.old)
+        (with_put_at (dimm_at modules.old seat) (first_slot_in (slice_index_or modules.old seat d)) label.now replaces
+        (labels_in modules.old)))
+        R.Shown (kept_of modules.old regions.old) rig.old (kept_of modules.new regions.new) rig.new result }
 {
     let lost = replaced_label(&modules[seat], replaces);
     match put_in(rig, &mut modules[seat], label, replaces) {

@@ -1,19 +1,16 @@
 //! Junk and dead labels of a module are freed.
 
-ghost use Rattle.std.specs.Prelude.{◌≡◌, ◌<◌, ◌≤◌, IfErr, OnErr, OnOk, length, map, slice_index_or, vec_capacity};
+ghost use Rattle.std.specs.Prelude.{◌≡◌, ◌<◌, ◌≤◌, ◌∷◌, OnErr, OnOk, [], length, slice_index_or, vec_capacity};
 ghost use Rattle.std.specs.List.{All};
-ghost use Rattle.std.specs.Result.{is_err};
-ghost use Rattle.rig_trait.specs.Frames.{FailsAt, IsTold, LeavesOnly, WritesTo};
 ghost use Rattle.label_table.specs.Tables.{state};
 ghost use Rattle.region_labels.specs.declared.modules.LoadedModule.{LoadedModule};
 ghost use Rattle.region_labels.specs.Fates.{platform_of};
-ghost use Rattle.region_labels.specs.Modules.{dimm_of, labels_in};
+ghost use Rattle.region_labels.specs.Modules.{labels_in};
 ghost use Rattle.region_labels.specs.Changes.{dimm_at};
-ghost use Rattle.module_flips.specs.Flips.{IsReadyArea, IsSizedIn};
-ghost use Rattle.module_flips.specs.Stored.{StandsIn};
-ghost use Rattle.module_flips.specs.Stops.{LeftIn};
+ghost use Rattle.module_flips.specs.Flips.{IsReadyArea};
+ghost use Rattle.module_flips.specs.Passes.{AreSized, IsPass, kept_of};
 ghost use Rattle.module_flips.specs.Together.{IsTogether};
-ghost use Rattle.module_flips.specs.Sweeps.{HasSlotsWithin, IsSweptTo};
+ghost use Rattle.module_flips.specs.Sweeps.{HasSlotsWithin, IsSwept, IsSweptTo};
 
 use crate::flips::{AreaFailed, free_at};
 use crate::lists::{list_labels, list_unwanted};
@@ -37,21 +34,18 @@ pub fn sweep_labels<R: Rig>(
     requires together { IsTogether modules.old regions.old }
     requires slots { All (HasSlotsWithin (vec_capacity slots.old)) modules.old }
     requires lost { All (HasSlotsWithin (vec_capacity lost.old)) modules.old }
-    requires sized { IsTold R.Shown rig.old → All (IsSizedIn (R.areas rig.old)) modules.old }
+    requires sized { AreSized R.Shown rig.old modules.old }
     ensures swept { OnOk result (IsSweptTo modules.old regions.old modules.new regions.new seat) }
     ensures kept { OnErr result (modules.new ≡ modules.old) }
     ensures kept_regions { OnErr result (regions.new ≡ regions.old) }
     ensures slots { vec_capacity slots.old ≤ vec_capacity slots.new }
     ensures lost { vec_capacity lost.old ≤ vec_capacity lost.new }
-    ensures stands { IsTold R.Shown rig.old → All (StandsIn (R.areas rig.old)) modules.old
-        → OnOk result (All (StandsIn (R.areas rig.new)) modules.new) }
-    ensures any_moment { IsTold R.Shown rig.old → All (StandsIn (R.areas rig.old)) modules.old
-        → LeavesOnly R.Shown rig.old rig.new (LeftIn (map dimm_of modules.old) (R.said rig.old)
-        (λ labels. state (platform_of regions.old) labels ≡ state (platform_of regions.old) (labels_in modules.old))) }
-    ensures writes_only { WritesTo (dimm_at modules.old seat) R.Shown rig.old rig.new }
-    ensures cause { FailsAt (dimm_at modules.old seat) R.Shown rig.old rig.new (is_err result) }
-    ensures names { IfErr result (λ failed. failed.dimm ≡ dimm_at modules.old seat) }
-    ensures reads { R.reads rig.new ≡ R.reads rig.old }
+    ensures pass { IsPass (dimm_at modules.old seat ∷ [])
+        (λ labels. state (platform_of regions.old) labels ≡ state (platform_of regions.old) (labels_in modules.old))
+        R.Shown (kept_of modules.old regions.old) rig.old (kept_of modules.new regions.new) rig.new result }
+    ensures idle { ((d : LoadedModule)
+        → IsSwept (platform_of regions.old) (labels_in modules.old) (slice_index_or modules.old seat d))
+        → rig.new ≡ rig.old }
 {
     let all = &modules[..];
     list_unwanted(slots, all, regions, &all[seat]);

@@ -16,7 +16,8 @@ use Rattle.region_labels.specs.Regions.{handles}
 use Rattle.label_sets.proofs.Platforms.{known-members}
 use Rattle.namespace_commands.specs.declared.creation.ChangeFault.{ChangeFault}
 use Rattle.namespace_commands.specs.declared.creation.ChangeFault.TheVariants.{Area, Memory}
-use Rattle.namespace_commands.specs.Create.{HasChangeCause, modules_of}
+use Rattle.module_flips.specs.Stops.{HasAreaCause}
+use Rattle.namespace_commands.specs.Create.{area_failed, modules_of}
 use Rattle.namespace_commands.specs.Releases.{IsAreaOf}
 
 member-known : (ms : List Member) (hs : List ℕ) (dimm : ℕ) → All (λ (m : Member). Contains hs m.handle) ms → is_among (map (λ (m : Member). m.handle) ms) dimm ≡ true → Contains hs dimm
@@ -38,7 +39,7 @@ region-known P sound index dimm = by (region_at P index) refl
         list_any-at (λ handle. handle == dimm) P.modules dimm (member-known r.members P.modules dimm (known-members P sound r in_P) is) (eq_same dimm dimm refl)
 
 -- a command on a region fails at a module of the platform
-pub region-among : {R : Type 0} (m : Ghosts R) (old new : R) (P : Platform) → IsSound P → (index : ℕ) (result : Result Reply ChangeFault) → HasChangeCause (modules_of P index) m old new result → IfErr result (IsAreaOf P)
+pub region-among : {R : Type 0} (m : Ghosts R) (old new : R) (P : Platform) → IsSound P → (index : ℕ) (result : Result Reply ChangeFault) → HasAreaCause (modules_of P index) m old new (area_failed result) → IfErr result (IsAreaOf P)
 region-among m old new P sound index (Ok reply) cause = tt
-region-among m old new P sound index (Err (Area dimm)) cause = region-known P sound index dimm cause.1
+region-among m old new P sound index (Err (Area dimm)) cause = region-known P sound index dimm cause.known
 region-among m old new P sound index (Err Memory) cause = tt

@@ -29,7 +29,7 @@ use Rattle.region_labels.specs.declared.modules.LoadedModule.{LoadedModule}
 use Rattle.region_labels.specs.Fates.{with_regions}
 use Rattle.region_labels.specs.Modules.{dimm_of, is_of, module_or_missing, size_in, without_labels}
 use Rattle.region_labels.specs.Statuses.{unready_state}
-use Rattle.module_flips.specs.Stops.{LeftIn}
+use Rattle.module_flips.specs.Stops.{HasAreaCause, LeftIn}
 use Rattle.module_flips.specs.Stored.{StandsIn, stored_labels}
 use Rattle.module_flips.proofs.Standing.{stands}
 use Rattle.module_flips.proofs.Turned.{no_flip}
@@ -48,7 +48,7 @@ use Rattle.label_table.proofs.ListTests.{eq_same}
 use Rattle.namespace_passes.proofs.Records.{no_write, one_write_more}
 use Rattle.label_area.proofs.Initialising.{looking}
 use Rattle.namespace_commands.specs.Changes.{IsBeforeOrBehind}
-use Rattle.namespace_commands.specs.Create.{HasChangeCause, WhereMemory}
+use Rattle.namespace_commands.specs.Create.{WhereMemory, area_failed}
 use Rattle.namespace_commands.specs.Releases.{IsAreaOf}
 use Rattle.namespace_commands.specs.Initialising.{InitialisesAnyhow, IsInit, Stand, init_answer, init_refusal}
 
@@ -265,13 +265,13 @@ module _ {R : Type 0} (m : Ghosts R) (P : Platform) (sets : StoredSets) (in_P : 
   init-areas (Err (inits.Failed failed)) has told = tt
   init-areas (Err inits.Memory) has told = tt
 
-  init-cause : (result : Result ℕ SetInitFault) → HasInit m dimm sets old now new result → HasChangeCause (dimm ∷ []) m old new (init_answer dimm result)
+  init-cause : (result : Result ℕ SetInitFault) → HasInit m dimm sets old now new result → HasAreaCause (dimm ∷ []) m old new (area_failed (init_answer dimm result))
   init-cause (Ok slots) has = record { faults = has.cause.faults; failed_dimm = has.cause.failed_dimm }
   init-cause (Err (inits.Refused told)) has = record { faults = has.cause.faults; failed_dimm = has.cause.failed_dimm }
-  init-cause (Err (inits.Failed failed)) has = (
-    subst (λ h. FailsAt h m old new true) (sym has.names) has.cause,
-    subst (λ h. is_among (dimm ∷ []) h ≡ true) (sym has.names) (ap (λ b. b || false) (eq_same dimm dimm refl)),
-  )
+  init-cause (Err (inits.Failed failed)) has = record {
+    fails = subst (λ h. FailsAt h m old new true) (sym has.names) has.cause;
+    known = subst (λ h. is_among (dimm ∷ []) h ≡ true) (sym has.names) (ap (λ b. b || false) (eq_same dimm dimm refl));
+  }
   init-cause (Err inits.Memory) has = record { faults = has.cause.faults; failed_dimm = has.cause.failed_dimm }
 
   init-among : (result : Result ℕ SetInitFault) → HasInit m dimm sets old now new result → IfErr (init_answer dimm result) (IsAreaOf P)

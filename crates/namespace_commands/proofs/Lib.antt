@@ -7,7 +7,6 @@ pub mod LookUps
 pub mod Holding
 pub mod Refused
 pub mod PutSpaces
-pub mod JoinedSteps
 pub mod AcceptedCreates
 pub mod RecoveredSpaces
 pub mod CreateEnds

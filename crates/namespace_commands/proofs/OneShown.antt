@@ -19,7 +19,7 @@ use Rattle.label_table.specs.Statuses.{status}
 use Rattle.label_table.specs.Tables.{State, state}
 use Rattle.label_table.proofs.Equations.{pending-of_state}
 use Rattle.label_table.proofs.ListTests.{Contains-here, Contains-there, find-some, some_is}
-use Rattle.label_table.proofs.Partition.{maximal-one}
+use Rattle.view_types.proofs.Maximal.{one_list}
 use Rattle.region_labels.specs.Marks.{listed}
 use Rattle.region_labels.specs.Statuses.{shown_status}
 use Rattle.table_steps.specs.Refusals.{IsReplyBy, area_by, first_of, unknown_dimm, unknown_region, unusable}
@@ -82,7 +82,7 @@ module _ (P : Platform) (disjoint : IsDisjoint P) (L M : Labels) (same : state P
       let regions : a.region ≡ b.region = some_is (sym a.found ∙ b.found) in
       let here : AreFreeExtents P L b.region a.extents = subst (λ (q : Region). AreFreeExtents P L q a.extents) regions a.extents_are in
       let there : AreFreeExtents P L b.region b.extents = subst (λ (f : ℕ → Bool). AreMaximal (part_size b.region) f b.extents) (free-same P disjoint L M same b.region (known index b.region b.found)) b.extents_are in
-      let extents : a.extents ≡ b.extents = maximal-one (part_size b.region) (is_common_free P L b.region) a.extents b.extents here there in
+      let extents : a.extents ≡ b.extents = one_list (part_size b.region) (is_common_free P L b.region) a.extents b.extents here there in
       a.reply_is ∙ (λ i. Free (extents i) (min (largest (regions i) (extents i)) (2 ^ 64 - 1))) ∙ sym b.reply_is
 
   held-reply-one : (dimm : ℕ) (r t : Reply) → IsHeldOf P L dimm r → IsHeldOf P M dimm t → r ≡ t

@@ -25,7 +25,7 @@ use Rattle.region_labels.specs.Fates.{with_regions}
 use Rattle.region_labels.specs.Modules.{is_of, module_in, module_or_missing}
 use Rattle.module_flips.specs.Together.{free_slots}
 use Rattle.namespace_passes.specs.Staged.{new_space}
-use Rattle.label_sets.specs.Sets.{StoredSets, labels_in, platform_in, state_in}
+use Rattle.label_sets.specs.Sets.{IsTableOf, StoredSets, labels_in, platform_in, state_in}
 use Rattle.label_sets.specs.Sweeps.{IsFreeAsSpare, IsSweptAt}
 use Rattle.module_flips.specs.Sweeps.{IsSwept}
 use Rattle.label_table.proofs.SoundPlatforms.{sound-disjoint}
@@ -37,7 +37,7 @@ use Rattle.table_steps.specs.Create.{Creates, IsCreated, created, keeps_uuid, pa
 use Rattle.table_steps.proofs.Fresh.{fresh}
 use Rattle.table_steps.proofs.Made.{made-is}
 use Rattle.table_steps.proofs.Uuids.{keeps-same}
-use Rattle.namespace_commands.specs.Create.{CanPutIn, IsBeforeOrAfter, IsCreateRefusal, IsNewSpace, IsPutIn, IsTableOf, IsTableOrWith}
+use Rattle.namespace_commands.specs.Create.{CanPutIn, IsBeforeOrAfter, IsCreateRefusal, IsNewSpace, IsPutIn, IsTableOrWith}
 use Rattle.namespace_commands.specs.Lists.{IsStateOf}
 use Rattle.namespace_commands.proofs.AcceptedCreates.{HasFree, has-free}
 use Rattle.namespace_commands.proofs.CreateEnds.{creates-accepted}

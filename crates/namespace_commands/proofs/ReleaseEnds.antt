@@ -1,66 +1,24 @@
 -- The answers of a release.
-use Rattle.std.proofs.Common.{◌≡◌, inl, inr, ℕ, ◌<◌, true, false, List, [], ◌∷◌, map, Some, None, refl, sym, ap, subst, ◌∙◌}
-use Rattle.std.specs.Prelude.{◌==◌, ◌||◌, Result, Ok, Err, IfErr, OnOk}
-use Rattle.std.specs.List.{All, list_any}
-use Rattle.std.specs.Result.{is_err}
+use Rattle.std.proofs.Common.{◌≡◌, inl, inr, ℕ, ◌<◌, true, List, Some, None, refl, sym, ap, subst, ◌∙◌}
+use Rattle.std.specs.Prelude.{◌==◌}
+use Rattle.std.specs.List.{list_any}
 use Rattle.view_types.specs.declared.refusal.Refusal.{Refusal}
 use Rattle.view_types.specs.declared.reply.Reply.TheVariants.{Refused, Released}
-use Rattle.rig_trait.specs.declared.shown.Shown.{Ghosts}
-use Rattle.rig_trait.specs.Frames.{FailsAt, IsTold, LeavesOnly, WritesTo}
 use Rattle.label_codec.specs.ModuleLabels.{Labels, has, is_ready}
-use Rattle.label_area.specs.Flips.{is_among}
 use Rattle.region_map.specs.declared.platform.Platform.{Platform}
 use Rattle.region_map.specs.declared.platform.Region.{Region}
 use Rattle.region_map.specs.Platforms.{IsSound}
 use Rattle.label_table.specs.Tables.{State, state, table}
-use Rattle.label_table.proofs.ListTests.{eq_same}
 use Rattle.region_labels.specs.Fates.{with_regions}
-use Rattle.region_labels.specs.Modules.{dimm_of, size_in}
-use Rattle.module_flips.specs.declared.flips.AreaFailed.{AreaFailed}
-use Rattle.module_flips.specs.Stops.{HasAreaCause, LeftIn}
-use Rattle.module_flips.specs.Stored.{StandsIn}
 use Rattle.module_flips.specs.Releases.{IsBeforeOrReleased, released_state}
-use Rattle.namespace_passes.proofs.Records.{no_write, one_write_more}
 use Rattle.label_sets.specs.Releases.{CanReleaseIn}
 use Rattle.label_sets.specs.Sets.{StoredSets, labels_in, platform_in, state_in}
 use Rattle.table_steps.specs.Refusals.{first_of}
 use Rattle.table_steps.specs.Release.{IsReleased, MayBeReleased, Releases, release_refusals, released}
 use Rattle.table_steps.proofs.AcceptedReleases.{unrefused-release}
 use Rattle.namespace_commands.specs.Changes.{IsBeforeOrBehind}
-use Rattle.namespace_commands.specs.Commands.{IsPassOf}
 use Rattle.namespace_commands.proofs.ChangeEnds.{done-accepted, done-refused}
 use Rattle.namespace_commands.proofs.RecoveredSpaces.{state-there}
-
--- One flip of a module's area is a pass over this module.
-module _ {R : Type 0} (m : Ghosts R) (dimm : ℕ) where
-  own : is_among (dimm ∷ []) dimm ≡ true
-  own = ap (λ b. b || false) (eq_same dimm dimm refl)
-
-  flip-cause : {T : Type 0} {old new : R} (result : Result T AreaFailed) → FailsAt dimm m old new (is_err result) → IfErr result (λ failed. failed.dimm ≡ dimm) → HasAreaCause (dimm ∷ []) m old new result
-  flip-cause (Ok value) fails names = record { faults = fails.faults; failed_dimm = fails.failed_dimm }
-  flip-cause {old = old} {new = new} (Err failed) fails names = record {
-    fails = subst (λ d. FailsAt d m old new true) (sym names) fails;
-    known = ap (is_among (dimm ∷ [])) names ∙ own;
-  }
-
-  pub flip-pass : {T : Type 0} {old new : R} (F : Labels → Type 0) (sets now : StoredSets) (result : Result T AreaFailed)
-      → now.regions ≡ sets.regions → map dimm_of now.modules ≡ map dimm_of sets.modules → map size_in now.modules ≡ map size_in sets.modules
-      → (IsTold m old → All (StandsIn (m.areas old)) sets.modules → OnOk result (All (StandsIn (m.areas new)) now.modules))
-      → (IsTold m old → All (StandsIn (m.areas old)) sets.modules → LeavesOnly m old new (LeftIn (map dimm_of sets.modules) (m.said old) F))
-      → WritesTo dimm m old new → FailsAt dimm m old new (is_err result) → IfErr result (λ failed. failed.dimm ≡ dimm) → m.reads new ≡ m.reads old
-      → IsPassOf (dimm ∷ []) m F sets old now new result
-  flip-pass {old = old} F sets now result regions dimms sizes stands any_moment writes fails names reads = record {
-    step = record {
-      regions = regions;
-      dimms = dimms;
-      sizes = sizes;
-      any_moment = any_moment;
-      writes = one_write_more {m = m} (dimm ∷ []) dimm own (no_write {m = m} (dimm ∷ []) old) writes;
-      reads = reads;
-    };
-    stands = stands;
-    cause = flip-cause result fails names;
-  }
 
 -- A release that is refused, or that nothing refuses.
 module _ (P : Platform) (sets : StoredSets) (same : sets.regions ≡ P.regions) (dimm : ℕ) (u : List ℕ) where

@@ -1,23 +1,18 @@
--- What a command promises that changes label storage areas, and what each pass of it does.
-use Rattle.std.specs.Prelude.{◌≡◌, ◌⊎◌, ℕ, false, IfErr, IfOk, List, OnOk, Result, map}
-use Rattle.std.specs.List.{All}
+-- What a command promises that changes label storage areas, and what its passes leave.
+use Rattle.std.specs.Prelude.{◌≡◌, ◌⊎◌, ℕ, false, IfErr, IfOk, List, Result}
 use Rattle.view_types.specs.declared.reply.Reply.{Reply}
 use Rattle.rig_trait.specs.declared.shown.Shown.{Ghosts}
-use Rattle.rig_trait.specs.Frames.{IsTold, LeavesOnly}
 use Rattle.label_codec.specs.ModuleLabels.{Labels}
 use Rattle.region_map.specs.declared.platform.Platform.{Platform}
 use Rattle.region_map.specs.declared.platform.Region.{Region}
 use Rattle.label_table.specs.Tables.{State, changed_at, table, without_namespace}
 use Rattle.namespace_passes.specs.Renaming.{with_name}
-use Rattle.region_labels.specs.Modules.{dimm_of, size_in}
-use Rattle.module_flips.specs.declared.flips.AreaFailed.{AreaFailed}
-use Rattle.module_flips.specs.Stops.{HasAreaCause, LeftIn, WritesAmong}
-use Rattle.module_flips.specs.Stored.{StandsIn}
-use Rattle.label_sets.specs.Sets.{StoredSets, labels_in, platform_in, state_in}
+use Rattle.module_flips.specs.Passes.{IsPass}
+use Rattle.label_sets.specs.Sets.{IsTableOf, StoredSets, kept_in, labels_in, platform_in, state_in}
 use Rattle.namespace_commands.specs.declared.creation.ChangeFault.{ChangeFault}
 use Rattle.namespace_commands.specs.Changes.{IsBeforeOrBehind}
 use Rattle.view_types.specs.Replies.{WhereRefused}
-use Rattle.namespace_commands.specs.Create.{HasChangeCause, IsStepOf, IsTableOf, WhereMemory}
+use Rattle.namespace_commands.specs.Create.{WhereMemory, area_failed}
 
 -- A command with a step: what it answers, and the state behind it. It writes the areas of these modules alone.
 pub record IsChange {R : Type 0} (modules : List ℕ) (platform : Platform) (does : Reply → State → Type 0) (m : Ghosts R)
@@ -29,26 +24,9 @@ pub record IsChange {R : Type 0} (modules : List ℕ) (platform : Platform) (doe
   pub unwritten : IfOk result (WhereRefused (new ≡ old))
   pub memory : IfErr result (WhereMemory (now ≡ sets))
   pub unwritten_memory : IfErr result (WhereMemory (new ≡ old))
-  pub regions : now.regions ≡ sets.regions
-  pub dimms : map dimm_of now.modules ≡ map dimm_of sets.modules
-  pub sizes : map size_in now.modules ≡ map size_in sets.modules
-  pub stands : IsTold m old → All (StandsIn (m.areas old)) sets.modules
-      → OnOk result (All (StandsIn (m.areas new)) now.modules)
   -- a stop at any moment leaves the table before the command, or that behind it
-  pub any_moment : IsTold m old → All (StandsIn (m.areas old)) sets.modules
-      → LeavesOnly m old new (LeftIn (map dimm_of sets.modules) (m.said old)
-      (IsBeforeOrBehind platform (labels_in sets) does))
-  pub writes_among : WritesAmong modules m old new
-  pub cause : HasChangeCause modules m old new result
-  pub reads : m.reads new ≡ m.reads old
-
--- A pass over modules: what a stop at any moment leaves fits, and where no area fails the areas stand for what is kept.
-pub record IsPassOf {R T : Type 0} (handles : List ℕ) (m : Ghosts R) (fits : Labels → Type 0) (sets : StoredSets)
-    (old : R) (now : StoredSets) (new : R) (result : Result T AreaFailed) : Type 0 where
-  pub step : IsStepOf handles m fits sets old now new
-  pub stands : IsTold m old → All (StandsIn (m.areas old)) sets.modules
-      → OnOk result (All (StandsIn (m.areas new)) now.modules)
-  pub cause : HasAreaCause handles m old new result
+  pub pass : IsPass modules (IsBeforeOrBehind platform (labels_in sets) does) m (kept_in sets) old (kept_in now) new
+      (area_failed result)
 
 -- labels stand for the table of the state, or for that without a namespace
 abbrev pub IsTableOrWithout : StoredSets → Region → List ℕ → Labels → Type 0

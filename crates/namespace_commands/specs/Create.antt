@@ -1,14 +1,11 @@
 -- What a create asks of the state, what it gives, and what a stop leaves of it.
-use Rattle.std.specs.Prelude.{◌≡◌, ◌⊎◌, ℕ, ◌<◌, false, true, List, [], Option, None, Some, Result, Ok, Err, map}
+use Rattle.std.specs.Prelude.{◌≡◌, ◌⊎◌, ℕ, ◌<◌, false, true, List, [], Option, None, Some, Result, Ok, Err}
 use Rattle.std.specs.Option.{option_map_or}
 use Rattle.std.specs.List.{All}
 use Rattle.view_types.specs.declared.extents.Extent.{Extent}
 use Rattle.view_types.specs.declared.namespaces.Namespace.{Namespace}
 use Rattle.view_types.specs.declared.refusal.Refusal.{Refusal}
 use Rattle.view_types.specs.Intervals.{IsFirstFit}
-use Rattle.rig_trait.specs.declared.shown.Shown.{Ghosts}
-use Rattle.rig_trait.specs.Frames.{FailsAt, IsTold, LeavesOnly}
-use Rattle.label_area.specs.Flips.{is_among}
 use Rattle.label_codec.specs.ModuleLabels.{Labels}
 use Rattle.region_map.specs.declared.platform.Member.{Member}
 use Rattle.region_map.specs.declared.platform.Platform.{Platform}
@@ -22,13 +19,11 @@ use Rattle.label_table.specs.Tables.{changed_at, is_member, table, with_namespac
 use Rattle.region_labels.specs.declared.named.Named.{Named}
 use Rattle.region_labels.specs.declared.named.Named.TheVariants as named
 use Rattle.region_labels.specs.declared.modules.LoadedModule.{LoadedModule}
-use Rattle.region_labels.specs.Modules.{dimm_of, size_in}
 use Rattle.region_labels.specs.Regions.{handles}
-use Rattle.module_flips.specs.Stops.{LeftIn, WritesAmong}
-use Rattle.module_flips.specs.Stored.{StandsIn}
+use Rattle.module_flips.specs.declared.flips.AreaFailed.{AreaFailed}
 use Rattle.module_flips.specs.Together.{free_slots}
 use Rattle.namespace_passes.specs.Staged.{new_space}
-use Rattle.label_sets.specs.Sets.{StoredSets, labels_in, platform_in, state_in}
+use Rattle.label_sets.specs.Sets.{IsTableOf, StoredSets, labels_in, platform_in, state_in}
 use Rattle.label_sets.specs.Staging.{IsOpenRange}
 use Rattle.table_steps.specs.declared.new_namespace.NewNamespace.{NewNamespace}
 use Rattle.table_steps.specs.Create.{AreFreeOf, Creates, create_refusals, made, part_length}
@@ -69,14 +64,14 @@ WhereMemory fact faults.Memory = fact
 abbrev pub modules_of : Platform → ℕ → List ℕ
 modules_of platform index = option_map_or handles (region_at platform index) []
 
-abbrev pub HasCauseOf : {R : Type 0} → List ℕ → Ghosts R → R → R → ChangeFault → Type 0
-HasCauseOf modules m old new (faults.Area dimm) = FailsAt dimm m old new true × (is_among modules dimm ≡ true)
-HasCauseOf modules m old new faults.Memory = FailsAt 0 m old new false
+abbrev pub failed_by : ChangeFault → Result Unit AreaFailed
+failed_by (faults.Area dimm) = Err (record { dimm = dimm })
+failed_by faults.Memory = Ok tt
 
--- No call of the rig failed, or the last one did, and `Area` names its module, one of these.
-abbrev pub HasChangeCause : {R T : Type 0} → List ℕ → Ghosts R → R → R → Result T ChangeFault → Type 0
-HasChangeCause modules m old new (Ok value) = FailsAt 0 m old new false
-HasChangeCause modules m old new (Err fault) = HasCauseOf modules m old new fault
+-- the area that failed, where one did
+abbrev pub area_failed : {T : Type 0} → Result T ChangeFault → Result Unit AreaFailed
+area_failed (Ok value) = Ok tt
+area_failed (Err fault) = failed_by fault
 
 -- A namespace can be put into a Ready region: no label of its modules has the uuid, each has two free slots, and the
 -- namespace's range is common free.
@@ -92,23 +87,7 @@ pub record IsPutIn (before after : StoredSets) (space : Space) (region : Region)
   pub table_is : (state_in after).table ≡ (with_namespace region space (state_in before)).table
   pub marks : (state_in after).pending ≡ changed_at region space.uuid false (state_in before).pending
 
--- labels stand for the table of the state
-abbrev pub IsTableOf : StoredSets → Labels → Type 0
-IsTableOf sets labels = table (platform_in sets) labels ≡ (state_in sets).table
-
 -- labels stand for the table of the state, or for that with a new namespace
 abbrev pub IsTableOrWith : StoredSets → Region → Space → Labels → Type 0
 IsTableOrWith sets region space labels = IsTableOf sets labels
     ⊎ (table (platform_in sets) labels ≡ (with_namespace region space (state_in sets)).table)
-
--- What each step keeps, whether it ends well or not: which regions and modules there are. What a stop at any moment
--- leaves fits, and no module but those with these handles is written.
-pub record IsStepOf {R : Type 0} (handles : List ℕ) (m : Ghosts R) (fits : Labels → Type 0) (sets : StoredSets)
-    (old : R) (now : StoredSets) (new : R) : Type 0 where
-  pub regions : now.regions ≡ sets.regions
-  pub dimms : map dimm_of now.modules ≡ map dimm_of sets.modules
-  pub sizes : map size_in now.modules ≡ map size_in sets.modules
-  pub any_moment : IsTold m old → All (StandsIn (m.areas old)) sets.modules
-      → LeavesOnly m old new (LeftIn (map dimm_of sets.modules) (m.said old) fits)
-  pub writes : WritesAmong handles m old new
-  pub reads : m.reads new ≡ m.reads old

@@ -21,7 +21,7 @@ use Rattle.label_area.specs.Modules.{area_kind}
 use Rattle.region_map.specs.declared.platform.Platform.{Platform}
 use Rattle.label_table.specs.Tables.{State, state}
 use Rattle.region_labels.specs.Modules.{dimm_of, size_in}
-use Rattle.module_flips.specs.Stops.{LeftIn, WritesAmong}
+use Rattle.module_flips.specs.Stops.{HasAreaCause, LeftIn, WritesAmong}
 use Rattle.module_flips.specs.Stored.{StandsIn}
 use Rattle.label_sets.specs.declared.init.SetInitFault.{SetInitFault}
 use Rattle.label_sets.specs.declared.init.SetInitFault.TheVariants as inits
@@ -31,7 +31,7 @@ use Rattle.table_steps.specs.Initialise.{Initialises}
 use Rattle.namespace_commands.specs.declared.creation.ChangeFault.{ChangeFault}
 use Rattle.namespace_commands.specs.declared.creation.ChangeFault.TheVariants as faults
 use Rattle.namespace_commands.specs.Changes.{IsBeforeOrBehind}
-use Rattle.namespace_commands.specs.Create.{HasChangeCause, WhereMemory}
+use Rattle.namespace_commands.specs.Create.{WhereMemory, area_failed}
 use Rattle.namespace_commands.specs.Releases.{IsAreaOf}
 
 -- why the area of a module in this state is not initialised
@@ -98,5 +98,5 @@ pub record IsInit {R : Type 0} (m : Ghosts R) (platform : Platform) (dimm : ℕ)
   pub area : IsTold m old → InitialisesArea dimm (m.areas old) (m.areas new) result
   pub area_left : IsTold m old → LeavesOnly m old new (LeftByInit (m.areas old) (m.said old) dimm)
   pub writes_among : WritesAmong (dimm ∷ []) m old new
-  pub cause : HasChangeCause (dimm ∷ []) m old new result
+  pub cause : HasAreaCause (dimm ∷ []) m old new (area_failed result)
   pub among : IfErr result (IsAreaOf platform)

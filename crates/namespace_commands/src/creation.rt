@@ -1,28 +1,22 @@
 //! The command that makes a namespace.
 
-ghost use Rattle.std.specs.Prelude.{◌≡◌, IfErr, IfOk, None, OnErr, OnOk, Some, map, true};
-ghost use Rattle.std.specs.List.{All};
-ghost use Rattle.rig_trait.specs.Frames.{IsTold, LeavesOnly};
+ghost use Rattle.std.specs.Prelude.{◌≡◌, IfOk, None, OnErr, OnOk, Some, true};
 ghost use Rattle.region_map.specs.Platforms.{IsSound, region_at};
-ghost use Rattle.region_labels.specs.Modules.{dimm_of, size_in};
 ghost use Rattle.region_labels.specs.Regions.{handles};
-ghost use Rattle.module_flips.specs.Flips.{IsSizedIn};
-ghost use Rattle.module_flips.specs.Stops.{HasAreaCause, LeftIn, WritesAmong};
-ghost use Rattle.module_flips.specs.Stored.{StandsIn};
 ghost use Rattle.namespace_passes.specs.Staged.{new_space};
-ghost use Rattle.label_sets.specs.Sets.{labels_in, platform_in, state_in};
-ghost use Rattle.recovery.specs.Recovery.{IsRecovered};
+ghost use Rattle.label_sets.specs.Sets.{kept_in, labels_in, state_in};
 ghost use Rattle.table_steps.specs.Changes.{least_spare};
 ghost use Rattle.table_steps.specs.Create.{Creates, IsCreated};
-ghost use Rattle.namespace_commands.specs.Create.{CanPutIn, HasChangeCause, IsBeforeOrAfter, IsCreateRefusal, IsNewSpace};
-ghost use Rattle.view_types.specs.Replies.{WhereRefused};
-ghost use Rattle.namespace_commands.specs.Create.{IsPutIn, IsStepOf, IsTableOf, IsTableOrWith, WhereMemory};
+ghost use Rattle.namespace_commands.specs.Create.{CanPutIn, IsBeforeOrAfter, IsCreateRefusal, IsNewSpace};
+ghost use Rattle.namespace_commands.specs.Create.{IsPutIn, IsTableOrWith};
 ghost use Rattle.namespace_commands.specs.Create.{modules_of};
 ghost use Rattle.namespace_commands.specs.Lists.{IsStateOf};
+ghost use Rattle.module_flips.specs.Passes.{AreSized, IsPass};
+ghost use Rattle.namespace_commands.specs.Commands.{IsChange};
 
 use crate::create_refusals::create_refusal;
+use crate::recovering::recover_ready;
 use label_sets::{AreaFailed, Sets};
-use recovery::{RecoverFault, recover};
 use region_map::{Member, Platform, Region};
 use rig_trait::Rig;
 use std::alloc::{AllocError, Global};
@@ -51,24 +45,9 @@ pub fn create<R: Rig>(
 ) -> Result<Reply, ChangeFault>
     requires sound { IsSound platform.now }
     requires state { IsStateOf platform.now sets.old }
-    requires sized { IsTold R.Shown rig.old → All (IsSizedIn (R.areas rig.old)) sets.old.modules }
-    ensures step { IfOk result (λ reply.
-        Creates platform.now (labels_in sets.old) asked.now reply (state_in sets.new)) }
-    ensures refused { IfOk result (WhereRefused (sets.new ≡ sets.old)) }
-    ensures unwritten { IfOk result (WhereRefused (rig.new ≡ rig.old)) }
-    ensures memory { IfErr result (WhereMemory (sets.new ≡ sets.old)) }
-    ensures unwritten_memory { IfErr result (WhereMemory (rig.new ≡ rig.old)) }
-    ensures regions { sets.new.regions ≡ sets.old.regions }
-    ensures dimms { map dimm_of sets.new.modules ≡ map dimm_of sets.old.modules }
-    ensures sizes { map size_in sets.new.modules ≡ map size_in sets.old.modules }
-    ensures stands { IsTold R.Shown rig.old → All (StandsIn (R.areas rig.old)) sets.old.modules
-        → OnOk result (All (StandsIn (R.areas rig.new)) sets.new.modules) }
-    ensures any_moment { IsTold R.Shown rig.old → All (StandsIn (R.areas rig.old)) sets.old.modules
-        → LeavesOnly R.Shown rig.old rig.new (LeftIn (map dimm_of sets.old.modules) (R.said rig.old)
-        (IsBeforeOrAfter platform.now (labels_in sets.old) asked.now)) }
-    ensures writes_among { WritesAmong (modules_of platform.now asked.now.region) R.Shown rig.old rig.new }
-    ensures cause { HasChangeCause (modules_of platform.now asked.now.region) R.Shown rig.old rig.new result }
-    ensures reads { R.reads rig.new ≡ R.reads rig.old }
+    requires sized { AreSized R.Shown rig.old sets.old.modules }
+    ensures { IsChange (modules_of platform.now asked.now.region) platform.now
+        (Creates platform.now (labels_in sets.old) asked.now) R.Shown sets.old rig.old sets.new rig.new result }
 {
     match create_refusal(alloc, platform, sets, asked) {
         Ok(None) => (),
@@ -79,9 +58,12 @@ pub fn create<R: Rig>(
         // Else it is refused.
         unreachable!()
     };
-    match prepare(alloc, platform, sets, region, asked) {
-        Ok(space) => make(rig, platform, sets, region, asked, &space),
-        Err(_) => Err(ChangeFault::Memory),
+    let Ok(space) = prepare(alloc, platform, sets, region, asked) else {
+        return Err(ChangeFault::Memory);
+    };
+    match make(rig, platform, sets, region, asked, &space) {
+        Ok(reply) => Ok(reply),
+        Err(failed) => Err(ChangeFault::Area { dimm: failed.dimm }),
     }
 }
 
@@ -100,14 +82,9 @@ fn prepare(
     ensures space { IfOk result (IsNewSpace platform.now (labels_in sets.old) asked.now region.now) }
     ensures kept { OnErr result (sets.new ≡ sets.old) }
 {
-    let space = match new_namespace(alloc, platform, sets, region, asked) {
-        Ok(space) => space,
-        Err(fault) => return Err(fault),
-    };
-    match sets.reserve() {
-        Ok(()) => Ok(space),
-        Err(fault) => Err(fault),
-    }
+    let space = new_namespace(alloc, platform, sets, region, asked)?;
+    sets.reserve()?;
+    Ok(space)
 }
 
 /// Makes a namespace that nothing refuses.
@@ -118,32 +95,28 @@ fn make<R: Rig>(
     region: &Region,
     asked: &NewNamespace,
     space: &Namespace,
-) -> Result<Reply, ChangeFault>
+) -> Result<Reply, AreaFailed>
     requires sound { IsSound platform.now }
     requires state { IsStateOf platform.now sets.old }
     requires known { region_at platform.now asked.now.region ≡ Some region.now }
     requires unrefused { IsCreateRefusal platform.now (labels_in sets.old) asked.now None }
     requires space { IsNewSpace platform.now (labels_in sets.old) asked.now region.now space.now }
     requires room { sets.old.room ≡ true }
-    requires sized { IsTold R.Shown rig.old → All (IsSizedIn (R.areas rig.old)) sets.old.modules }
+    requires sized { AreSized R.Shown rig.old sets.old.modules }
     ensures made { IfOk result (λ reply.
         IsCreated platform.now (labels_in sets.old) asked.now reply (state_in sets.new)) }
-    ensures not_memory { IfErr result (WhereMemory ⊥) }
-    ensures step { IsStepOf (handles region.now) R.Shown
-        (IsBeforeOrAfter platform.now (labels_in sets.old) asked.now) sets.old rig.old sets.new rig.new }
-    ensures stands { IsTold R.Shown rig.old → All (StandsIn (R.areas rig.old)) sets.old.modules
-        → OnOk result (All (StandsIn (R.areas rig.new)) sets.new.modules) }
-    ensures cause { HasChangeCause (handles region.now) R.Shown rig.old rig.new result }
+    ensures pass { IsPass (handles region.now) (IsBeforeOrAfter platform.now (labels_in sets.old) asked.now) R.Shown
+        (kept_in sets.old) rig.old (kept_in sets.new) rig.new result }
 {
-    match recover_region(rig, platform, sets, region, asked) {
+    match recover_ready(rig, platform, sets, region) {
         Ok(()) => (),
-        Err(failed) => return Err(ChangeFault::Area { dimm: failed.dimm }),
+        Err(failed) => return Err(failed),
     }
     // As free as they are spare, the modules have no dead label with the uuid.
     sets.sweep_law();
     match put_namespace(rig, platform, sets, region, space) {
         Ok(()) => Ok(created(sets, region, asked, space)),
-        Err(failed) => Err(ChangeFault::Area { dimm: failed.dimm }),
+        Err(failed) => Err(failed),
     }
 }
 
@@ -181,34 +154,6 @@ fn new_namespace(
     })
 }
 
-/// Recovers the region of a create that nothing refuses. The table stays.
-fn recover_region<R: Rig>(
-    rig: &mut R,
-    platform: &Platform,
-    sets: &mut Sets,
-    region: &Region,
-    asked: &NewNamespace,
-) -> Result<(), AreaFailed>
-    requires sound { IsSound platform.now }
-    requires state { IsStateOf platform.now sets.old }
-    requires known { region_at platform.now asked.now.region ≡ Some region.now }
-    requires unrefused { IsCreateRefusal platform.now (labels_in sets.old) asked.now None }
-    requires sized { IsTold R.Shown rig.old → All (IsSizedIn (R.areas rig.old)) sets.old.modules }
-    ensures recovered { OnOk result (IsRecovered sets.old sets.new region.now) }
-    ensures room { sets.new.room ≡ sets.old.room }
-    ensures step { IsStepOf (handles region.now) R.Shown (IsTableOf sets.old) sets.old rig.old sets.new rig.new }
-    ensures stands { IsTold R.Shown rig.old → All (StandsIn (R.areas rig.old)) sets.old.modules
-        → OnOk result (All (StandsIn (R.areas rig.new)) sets.new.modules) }
-    ensures cause { HasAreaCause (handles region.now) R.Shown rig.old rig.new result }
-{
-    match recover(rig, platform, sets, asked.region) {
-        Ok(()) => Ok(()),
-        Err(RecoverFault::Failed { dimm }) => Err(AreaFailed { dimm }),
-        // Else the create is refused.
-        Err(RecoverFault::Unhealed { .. }) => unreachable!(),
-    }
-}
-
 /// Puts the labels of a new namespace into the modules of its region, and heals it.
 fn put_namespace<R: Rig>(
     rig: &mut R,
@@ -222,13 +167,10 @@ fn put_namespace<R: Rig>(
     requires known { region_at platform.now region.now.index ≡ Some region.now }
     requires put { CanPutIn sets.old space.now region.now }
     requires room { sets.old.room ≡ true }
-    requires sized { IsTold R.Shown rig.old → All (IsSizedIn (R.areas rig.old)) sets.old.modules }
+    requires sized { AreSized R.Shown rig.old sets.old.modules }
     ensures put { OnOk result (IsPutIn sets.old sets.new (new_space space.now) region.now) }
-    ensures step { IsStepOf (handles region.now) R.Shown (IsTableOrWith sets.old region.now (new_space space.now))
-        sets.old rig.old sets.new rig.new }
-    ensures stands { IsTold R.Shown rig.old → All (StandsIn (R.areas rig.old)) sets.old.modules
-        → OnOk result (All (StandsIn (R.areas rig.new)) sets.new.modules) }
-    ensures cause { HasAreaCause (handles region.now) R.Shown rig.old rig.new result }
+    ensures pass { IsPass (handles region.now) (IsTableOrWith sets.old region.now (new_space space.now)) R.Shown
+        (kept_in sets.old) rig.old (kept_in sets.new) rig.new result }
 {
     match sets.stage_all(rig, platform, region.index, space) {
         Ok(()) => sets.clear_all(rig, platform, region.index, &space.uuid),

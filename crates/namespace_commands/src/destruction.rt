@@ -1,19 +1,17 @@
 //! The command that takes a namespace away.
 
 ghost use Rattle.std.specs.Prelude.{◌≡◌, OnOk, Some};
-ghost use Rattle.std.specs.List.{All};
-ghost use Rattle.rig_trait.specs.Frames.{IsTold};
 ghost use Rattle.region_map.specs.Platforms.{IsSound, region_at};
 ghost use Rattle.label_table.specs.Tables.{without_namespace};
 ghost use Rattle.region_labels.specs.Regions.{handles};
-ghost use Rattle.module_flips.specs.Flips.{IsSizedIn};
 ghost use Rattle.label_sets.specs.Healing.{CanHealIn};
-ghost use Rattle.label_sets.specs.Sets.{labels_in, state_in};
+ghost use Rattle.label_sets.specs.Sets.{kept_in, labels_in, state_in};
 ghost use Rattle.table_steps.specs.Destroy.{Destroys, with_destroyed};
-ghost use Rattle.namespace_commands.specs.Commands.{IsChange, IsPassOf, IsTableOrWithout};
+ghost use Rattle.namespace_commands.specs.Commands.{IsChange, IsTableOrWithout};
 ghost use Rattle.namespace_commands.specs.Create.{modules_of};
 ghost use Rattle.namespace_commands.specs.Keys.{CanChange};
 ghost use Rattle.namespace_commands.specs.Lists.{IsStateOf};
+ghost use Rattle.module_flips.specs.Passes.{AreSized, IsPass};
 
 use crate::creation::ChangeFault;
 use crate::key_refusals::doomed_space;
@@ -39,7 +37,7 @@ pub fn destroy<R: Rig>(
 ) -> Result<Reply, ChangeFault>
     requires sound { IsSound platform.now }
     requires state { IsStateOf platform.now sets.old }
-    requires sized { IsTold R.Shown rig.old → All (IsSizedIn (R.areas rig.old)) sets.old.modules }
+    requires sized { AreSized R.Shown rig.old sets.old.modules }
     ensures { IsChange (modules_of platform.now region) platform.now
         (Destroys platform.now (labels_in sets.old) region key.now)
         R.Shown sets.old rig.old sets.new rig.new result }
@@ -74,11 +72,11 @@ fn take_away<R: Rig>(
     requires platform { platform.now.regions ≡ sets.old.regions }
     requires known { region_at platform.now region.now.index ≡ Some region.now }
     requires change { CanChange platform.now (labels_in sets.old) space.now region.now }
-    requires sized { IsTold R.Shown rig.old → All (IsSizedIn (R.areas rig.old)) sets.old.modules }
+    requires sized { AreSized R.Shown rig.old sets.old.modules }
     ensures destroyed { OnOk result
         (state_in sets.new ≡ with_destroyed region.now space.now.uuid (state_in sets.old)) }
-    ensures pass { IsPassOf (handles region.now) R.Shown (IsTableOrWithout sets.old region.now space.now.uuid)
-        sets.old rig.old sets.new rig.new result }
+    ensures pass { IsPass (handles region.now) (IsTableOrWithout sets.old region.now space.now.uuid) R.Shown
+        (kept_in sets.old) rig.old (kept_in sets.new) rig.new result }
 {
     match recover_ready(rig, platform, sets, region) {
         Ok(()) => free_labels(rig, platform, sets, region, &space.uuid),
@@ -98,10 +96,10 @@ fn free_labels<R: Rig>(
     requires platform { platform.now.regions ≡ sets.old.regions }
     requires known { region_at platform.now region.now.index ≡ Some region.now }
     requires heal { CanHealIn sets.old uuid.now region.now }
-    requires sized { IsTold R.Shown rig.old → All (IsSizedIn (R.areas rig.old)) sets.old.modules }
+    requires sized { AreSized R.Shown rig.old sets.old.modules }
     ensures gone { OnOk result (state_in sets.new ≡ without_namespace region.now uuid.now (state_in sets.old)) }
-    ensures pass { IsPassOf (handles region.now) R.Shown (IsTableOrWithout sets.old region.now uuid.now)
-        sets.old rig.old sets.new rig.new result }
+    ensures pass { IsPass (handles region.now) (IsTableOrWithout sets.old region.now uuid.now) R.Shown
+        (kept_in sets.old) rig.old (kept_in sets.new) rig.new result }
 {
     match sets.mark_all(rig, platform, region.index, uuid) {
         Ok(()) => sets.drop_all(rig, platform, region.index, uuid),

@@ -1,17 +1,13 @@
 //! The recovery of a region before a command changes a namespace of it.
 
 ghost use Rattle.std.specs.Prelude.{◌≡◌, None, OnOk, Some};
-ghost use Rattle.std.specs.List.{All};
-ghost use Rattle.rig_trait.specs.Frames.{IsTold};
 ghost use Rattle.region_map.specs.Platforms.{IsSound, region_at};
 ghost use Rattle.label_table.specs.Statuses.{RegionReady, status};
 ghost use Rattle.region_labels.specs.Regions.{handles};
-ghost use Rattle.module_flips.specs.Flips.{IsSizedIn};
-ghost use Rattle.label_sets.specs.Sets.{labels_in};
 ghost use Rattle.recovery.specs.Recovery.{IsRecovered};
 ghost use Rattle.table_steps.specs.Refusals.{unhealed_in};
-ghost use Rattle.namespace_commands.specs.Commands.{IsPassOf};
-ghost use Rattle.namespace_commands.specs.Create.{IsTableOf};
+ghost use Rattle.module_flips.specs.Passes.{AreSized, IsPass};
+ghost use Rattle.label_sets.specs.Sets.{IsTableOf, kept_in, labels_in};
 
 use label_sets::{AreaFailed, Sets};
 use recovery::{RecoverFault, recover};
@@ -30,10 +26,11 @@ pub(crate) fn recover_ready<R: Rig>(
     requires known { region_at platform.now region.now.index ≡ Some region.now }
     requires ready { status (labels_in sets.old) region.now ≡ RegionReady }
     requires healable { unhealed_in platform.now (labels_in sets.old) region.now ≡ None }
-    requires sized { IsTold R.Shown rig.old → All (IsSizedIn (R.areas rig.old)) sets.old.modules }
+    requires sized { AreSized R.Shown rig.old sets.old.modules }
     ensures recovered { OnOk result (IsRecovered sets.old sets.new region.now) }
     ensures room { sets.new.room ≡ sets.old.room }
-    ensures pass { IsPassOf (handles region.now) R.Shown (IsTableOf sets.old) sets.old rig.old sets.new rig.new result }
+    ensures pass { IsPass (handles region.now) (IsTableOf sets.old) R.Shown
+        (kept_in sets.old) rig.old (kept_in sets.new) rig.new result }
 {
     match recover(rig, platform, sets, region.index) {
         Ok(()) => Ok(()),

@@ -1,15 +1,13 @@
 //! The command that gives up held labels.
 
 ghost use Rattle.std.specs.Prelude.{◌∷◌, IfErr, []};
-ghost use Rattle.std.specs.List.{All};
-ghost use Rattle.rig_trait.specs.Frames.{IsTold};
 ghost use Rattle.region_map.specs.Platforms.{IsSound};
-ghost use Rattle.module_flips.specs.Flips.{IsSizedIn};
 ghost use Rattle.label_sets.specs.Sets.{labels_in};
 ghost use Rattle.table_steps.specs.Release.{Releases};
 ghost use Rattle.namespace_commands.specs.Commands.{IsChange};
 ghost use Rattle.namespace_commands.specs.Lists.{IsStateOf};
 ghost use Rattle.namespace_commands.specs.Releases.{IsAreaOf};
+ghost use Rattle.module_flips.specs.Passes.{AreSized};
 
 use crate::creation::ChangeFault;
 use crate::release_refusals::release_refusal;
@@ -33,7 +31,7 @@ pub fn release_held<R: Rig>(
 ) -> Result<Reply, ChangeFault>
     requires sound { IsSound platform.now }
     requires state { IsStateOf platform.now sets.old }
-    requires sized { IsTold R.Shown rig.old → All (IsSizedIn (R.areas rig.old)) sets.old.modules }
+    requires sized { AreSized R.Shown rig.old sets.old.modules }
     ensures change { IsChange (dimm ∷ []) platform.now (Releases platform.now (labels_in sets.old) dimm uuid.now)
         R.Shown sets.old rig.old sets.new rig.new result }
     ensures among { IfErr result (IsAreaOf platform.now) }

@@ -1,19 +1,17 @@
 //! The command that gives a namespace another name.
 
 ghost use Rattle.std.specs.Prelude.{◌≡◌, OnOk, Some};
-ghost use Rattle.std.specs.List.{All};
-ghost use Rattle.rig_trait.specs.Frames.{IsTold};
 ghost use Rattle.region_map.specs.Platforms.{IsSound, region_at};
 ghost use Rattle.region_labels.specs.Regions.{handles};
 ghost use Rattle.region_labels.specs.Statuses.{space_in};
-ghost use Rattle.module_flips.specs.Flips.{IsSizedIn};
 ghost use Rattle.label_sets.specs.Healing.{CanHealIn};
-ghost use Rattle.label_sets.specs.Sets.{labels_in, state_in};
+ghost use Rattle.label_sets.specs.Sets.{kept_in, labels_in, state_in};
 ghost use Rattle.table_steps.specs.Rename.{Renames, with_renamed};
-ghost use Rattle.namespace_commands.specs.Commands.{IsChange, IsNamedIn, IsPassOf, IsTableOrNamed};
+ghost use Rattle.namespace_commands.specs.Commands.{IsChange, IsNamedIn, IsTableOrNamed};
 ghost use Rattle.namespace_commands.specs.Create.{modules_of};
 ghost use Rattle.namespace_commands.specs.Keys.{CanChange};
 ghost use Rattle.namespace_commands.specs.Lists.{IsStateOf};
+ghost use Rattle.module_flips.specs.Passes.{AreSized, IsPass};
 
 use crate::creation::ChangeFault;
 use crate::key_refusals::named_space;
@@ -41,7 +39,7 @@ pub fn rename<R: Rig>(
 ) -> Result<Reply, ChangeFault>
     requires sound { IsSound platform.now }
     requires state { IsStateOf platform.now sets.old }
-    requires sized { IsTold R.Shown rig.old → All (IsSizedIn (R.areas rig.old)) sets.old.modules }
+    requires sized { AreSized R.Shown rig.old sets.old.modules }
     ensures { IsChange (modules_of platform.now region) platform.now
         (Renames platform.now (labels_in sets.old) region key.now name.now)
         R.Shown sets.old rig.old sets.new rig.new result }
@@ -77,12 +75,11 @@ fn give_name<R: Rig>(
     requires platform { platform.now.regions ≡ sets.old.regions }
     requires known { region_at platform.now region.now.index ≡ Some region.now }
     requires change { CanChange platform.now (labels_in sets.old) space.now region.now }
-    requires sized { IsTold R.Shown rig.old → All (IsSizedIn (R.areas rig.old)) sets.old.modules }
+    requires sized { AreSized R.Shown rig.old sets.old.modules }
     ensures renamed { OnOk result
         (state_in sets.new ≡ with_renamed region.now name.now (space_in space.now) (state_in sets.old)) }
-    ensures pass { IsPassOf (handles region.now) R.Shown
-        (IsTableOrNamed sets.old region.now space.now.uuid name.now)
-        sets.old rig.old sets.new rig.new result }
+    ensures pass { IsPass (handles region.now) (IsTableOrNamed sets.old region.now space.now.uuid name.now) R.Shown
+        (kept_in sets.old) rig.old (kept_in sets.new) rig.new result }
 {
     match recover_ready(rig, platform, sets, region) {
         Ok(()) => write_name(rig, platform, sets, region, &space.uuid, name),
@@ -103,10 +100,10 @@ fn write_name<R: Rig>(
     requires platform { platform.now.regions ≡ sets.old.regions }
     requires known { region_at platform.now region.now.index ≡ Some region.now }
     requires heal { CanHealIn sets.old uuid.now region.now }
-    requires sized { IsTold R.Shown rig.old → All (IsSizedIn (R.areas rig.old)) sets.old.modules }
+    requires sized { AreSized R.Shown rig.old sets.old.modules }
     ensures named { OnOk result (IsNamedIn sets.old sets.new region.now uuid.now name.now) }
-    ensures pass { IsPassOf (handles region.now) R.Shown (IsTableOrNamed sets.old region.now uuid.now name.now)
-        sets.old rig.old sets.new rig.new result }
+    ensures pass { IsPass (handles region.now) (IsTableOrNamed sets.old region.now uuid.now name.now) R.Shown
+        (kept_in sets.old) rig.old (kept_in sets.new) rig.new result }
 {
     match sets.change_first(rig, platform, region.index, uuid, name) {
         Ok(()) => sets.clear_all(rig, platform, region.index, uuid),

@@ -9,7 +9,8 @@ use Rattle.rig_trait.specs.Frames.{LeavesOnly, Reads}
 use Rattle.rig_trait.proofs.Frames.{no_call}
 use Rattle.label_codec.specs.ModuleLabels.{Labels}
 use Rattle.region_map.specs.declared.platform.Platform.{Platform}
-use Rattle.module_flips.specs.Stops.{LeftIn}
+use Rattle.module_flips.specs.Stops.{HasAreaCause, LeftIn}
+use Rattle.module_flips.proofs.Passes.{in-left}
 use Rattle.label_table.specs.Tables.{State, state}
 use Rattle.label_sets.specs.Init.{slots_at}
 use Rattle.label_sets.specs.Sets.{StoredSets, labels_in}
@@ -21,7 +22,7 @@ use Rattle.cmd_words.specs.declared.parts.Change.TheVariants.{InitLabels}
 use Rattle.namespace_commands.specs.declared.creation.ChangeFault.{ChangeFault}
 use Rattle.namespace_commands.specs.declared.creation.ChangeFault.TheVariants.{Area, Memory}
 use Rattle.namespace_commands.specs.Commands.{IsChange}
-use Rattle.namespace_commands.specs.Create.{HasChangeCause, WhereMemory}
+use Rattle.namespace_commands.specs.Create.{WhereMemory, area_failed}
 use Rattle.namespace_commands.specs.EachChange.{IsChangeDone, written_by}
 use Rattle.namespace_commands.specs.Initialising.{InitialisesAnyhow, InitialisesArea, IsInit, Stand}
 use Rattle.namespace_commands.specs.Lists.{IsStateOf}
@@ -60,6 +61,10 @@ on-run : (fact : Type 0) (result : Result Reply ChangeFault) → OnOk result fac
 on-run fact (Ok reply) is = is
 on-run fact (Err fault) is = tt
 
+on-failed : (fact : Type 0) (result : Result Reply ChangeFault) → OnOk (area_failed result) fact → OnOk (run_by result) fact
+on-failed fact (Ok reply) is = is
+on-failed fact (Err fault) is = tt
+
 among-run : (P : Platform) (result : Result Reply ChangeFault) → IfErr result (IsAreaOf P) → IfErr (run_by result) (IsRunAmong P.modules)
 among-run P (Ok reply) among = tt
 among-run P (Err (Area dimm)) among = among
@@ -70,14 +75,14 @@ area-run dimm areas now (Ok reply) is = record { written = is.written; kept = is
 area-run dimm areas now (Err fault) is = record { written = tt; kept = is.kept }
 
 module _ {R : Type 0} (m : Ghosts R) (old new : R) (modules : List ℕ) where
-  change-cause : (result : Result Reply ChangeFault) → HasChangeCause modules m old new result → HasRunCause m old new (run_by result)
+  change-cause : (result : Result Reply ChangeFault) → HasAreaCause modules m old new (area_failed result) → HasRunCause m old new (run_by result)
   change-cause (Ok reply) cause = cause
-  change-cause (Err (Area dimm)) cause = cause.0
+  change-cause (Err (Area dimm)) cause = cause.fails
   change-cause (Err Memory) cause = cause
 
-  change-at : (result : Result Reply ChangeFault) → HasChangeCause modules m old new result → IfErr (run_by result) (IsRunAt modules)
+  change-at : (result : Result Reply ChangeFault) → HasAreaCause modules m old new (area_failed result) → IfErr (run_by result) (IsRunAt modules)
   change-at (Ok reply) cause = tt
-  change-at (Err (Area dimm)) cause = cause.1
+  change-at (Err (Area dimm)) cause = cause.known
   change-at (Err Memory) cause = tt
 
 module _ {R : Type 0} (m : Ghosts R) (P : Platform) (sets : StoredSets) (in_P : IsStateOf P sets) (own : List ℕ) (old : R) (now : StoredSets) (new : R) where
@@ -115,7 +120,7 @@ module _ {R : Type 0} (m : Ghosts R) (P : Platform) (sets : StoredSets) (in_P : 
     does = steps.Does P slots L change own
 
     step-there : (result : Result Reply ChangeFault) → IsChange (written_by P change) P does m sets old now new result → IfOk result (λ reply. does reply after)
-    step-there (Ok reply) has = subst (does reply) (state-there P now (has.regions ∙ in_P.regions) (labels_in now)) has.step
+    step-there (Ok reply) has = subst (does reply) (state-there P now (has.pass.regions ∙ in_P.regions) (labels_in now)) has.step
     step-there (Err fault) has = tt
 
     step-run : (result : Result Reply ChangeFault) → IfOk result (λ reply. does reply after)
@@ -127,20 +132,20 @@ module _ {R : Type 0} (m : Ghosts R) (P : Platform) (sets : StoredSets) (in_P : 
     change-done result has among = record {
       step = step-run result (step-there result has);
       anyhow = said-told P slots L (parts.Change change) own after (Stand m old sets) other (run_by result) (step-run result (step-there result has));
-      stands = λ stand. on-run _ result (has.stands stand.0 stand.1);
-      any_moment = λ stand. subst (λ (hs : List ℕ). LeavesOnly m old new (LeftIn hs (m.said old) (IsBeforeOrAfter P slots L (parts.Change change) own))) in_P.modules (has.any_moment stand.0 stand.1);
+      stands = λ stand. on-failed _ result (has.pass.stands stand.0 stand.1);
+      any_moment = λ stand. subst (λ (hs : List ℕ). LeavesOnly m old new (LeftIn hs (m.said old) (IsBeforeOrAfter P slots L (parts.Change change) own))) in_P.modules (in-left (has.pass.any_moment stand.0 stand.1));
       kept = change-kept does after (λ reply. quiet-step P slots L change own reply after) (now ≡ sets) result (step-there result has) has.refused has.memory;
       reads_only = λ quiet. subst (Reads m old) (sym (change-kept does after (λ reply. quiet-step P slots L change own reply after) (new ≡ old) result (step-there result has) has.unwritten has.unwritten_memory quiet)) (no_call m old);
-      writes = has.writes_among;
+      writes = has.pass.writes;
       area = λ told. no-bytes (parts.Change change) other (m.areas old) (m.areas new) (run_by result);
       area_left = λ init. absurd (let differ : true ≡ false = sym init ∙ other in cc);
-      cause = change-cause m old new (written_by P change) result has.cause;
+      cause = change-cause m old new (written_by P change) result has.pass.cause;
       among = among-run P result among;
-      at = change-at m old new (written_by P change) result has.cause;
-      reads = λ quiet. has.reads;
-      regions = has.regions;
-      dimms = has.dimms;
-      sizes = has.sizes;
+      at = change-at m old new (written_by P change) result has.pass.cause;
+      reads = λ quiet. has.pass.reads;
+      regions = has.pass.regions;
+      dimms = has.pass.dimms;
+      sizes = has.pass.sizes;
     }
 
   pub change-is-done : (change : Change) (result : Result Reply ChangeFault) → IsChangeDone m P change own sets old now new result → IfErr result (IsAreaOf P) → IsDone m P (parts.Change change) own sets old now new (run_by result)

@@ -22,7 +22,8 @@ use Rattle.region_labels.specs.declared.region.RegionLabels.{RegionLabels}
 use Rattle.region_labels.specs.Fates.{platform_of}
 use Rattle.region_labels.specs.Modules.{labels_in}
 use Rattle.namespace_passes.proofs.Leading.{member-named}
-use Rattle.namespace_passes.specs.Dropping.{HasOneAt, IsBeforeOrLost, IsBeforeOrWithout, IsKeptOrGone, LosesLabel}
+use Rattle.namespace_passes.specs.Dropping.{IsBeforeOrLost, IsBeforeOrWithout, IsKeptOrGone, LosesLabel}
+use Rattle.namespace_passes.specs.Healing.{HasOneAt}
 
 -- The modules at the positions below one have lost their labels of the namespace, and those from there on are as they
 -- were, and so are all others.

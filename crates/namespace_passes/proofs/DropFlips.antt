@@ -1,14 +1,11 @@
 -- The label of one position is freed by a flip of the module there.
-use Rattle.std.proofs.Common.{◌≡◌, inl, inr, ℕ, ◌<◌, ◌+◌, Bool, true, false, not, ◌&&◌, cond, List, [], ◌∷◌, length, get_or, map, Some, None, Result, Ok, Err, refl, sym, ap, subst, ◌∙◌, arith}
-use Rattle.std.specs.Prelude.{◌==◌, IfErr, IsTrue}
+use Rattle.std.proofs.Common.{◌≡◌, inl, inr, ℕ, ◌<◌, ◌+◌, Bool, true, false, not, ◌&&◌, cond, List, [], ◌∷◌, length, get_or, Some, None, Result, refl, sym, ap, subst, ◌∙◌, arith}
+use Rattle.std.specs.Prelude.{◌==◌, IsTrue}
 use Rattle.std.specs.List.{All, AllZip, filter_map}
 use Rattle.std.specs.Option.{option_map}
-use Rattle.std.specs.Result.{is_err}
 use Rattle.std.proofs.lemmas.Bool.{cases_eq}
 use Rattle.std.proofs.lemmas.List.Folds.{list_any_at}
 use Rattle.rig_trait.specs.declared.shown.Shown.{Ghosts}
-use Rattle.rig_trait.specs.Frames.{FailsAt, LeavesOnly, WritesTo}
-use Rattle.rig_trait.proofs.Moments.{weakened}
 use Rattle.label_codec.specs.declared.label.Label.{Label}
 use Rattle.label_codec.specs.ModuleLabels.{Labels, Module, number}
 use Rattle.label_area.specs.Flips.{Standing, is_among}
@@ -26,21 +23,23 @@ use Rattle.region_labels.specs.declared.modules.ModuleArea.{ModuleArea}
 use Rattle.region_labels.specs.declared.modules.ModuleArea.TheVariants.{Missing, WrongSize, Uninit, Foreign, Ready}
 use Rattle.region_labels.specs.declared.region.RegionLabels.{RegionLabels}
 use Rattle.region_labels.specs.Fates.{with_regions}
-use Rattle.region_labels.specs.Modules.{dimm_of, labels_in, module_in, size_in}
+use Rattle.region_labels.specs.Modules.{labels_in, module_in, size_in}
 use Rattle.region_labels.specs.Regions.{IsOver, handles}
 use Rattle.region_labels.proofs.Seated.{handle-at, length-handles}
 use Rattle.module_flips.specs.Flips.{CanFree, HasLabelsInUse, IsFreedAt, IsOwn, IsReadyArea, is_used_in, without_slots_at}
-use Rattle.module_flips.specs.Stops.{HasAreaCause, IsOneOf, LeftIn, WritesAmong}
+use Rattle.module_flips.specs.Stops.{IsOneOf}
 use Rattle.module_flips.specs.declared.flips.AreaFailed.{AreaFailed}
 use Rattle.module_flips.specs.Together.{IsTogether, StaysTogether, slots_in}
 use Rattle.module_flips.proofs.Freed.{apart-at}
+use Rattle.module_flips.specs.Passes.{IsPass, Kept}
+use Rattle.module_flips.proofs.Passes.{pass-as, pass-within}
 use Rattle.module_flips.proofs.Together.{same-map, same-regions}
 use Rattle.namespace_passes.specs.declared.places.LabelPlace.{LabelPlace}
 use Rattle.namespace_passes.specs.Healing.{StandsAt}
 use Rattle.namespace_passes.proofs.Bounded.{all-bounded}
 use Rattle.namespace_passes.proofs.HealFlips.{no_module}
 use Rattle.namespace_passes.specs.Dropping.{GivesSlot, HasGiven, IsBeforeOrLost, LosesLabel}
-use Rattle.namespace_passes.proofs.DropFreeSlots.{one-freed}
+use Rattle.module_flips.proofs.FreeSlots.{one-freed}
 use Rattle.namespace_passes.proofs.Freeing.{loses, one-label-less}
 
 -- an area with a label is Ready
@@ -107,39 +106,18 @@ module _ (ms : List LoadedModule) (rs : List RegionLabels) (region : Region) (u 
       let below : position < length (handles region) = subst (λ n. position < n) (sym (length-handles region)) lt in
       list_any_at (λ h. dimm_at ms place.seat == h) (handles region) position 0 below (eq_same (dimm_at ms place.seat) (get_or (handles region) position 0) (dimm-is ∙ sym (handle-at region position lt)))
 
-  -- the module is one of the region's
-  pub flip-writes : {R : Type 0} (m : Ghosts R) (old new : R) → WritesTo (dimm_at ms place.seat) m old new → WritesAmong (handles region) m old new
-  flip-writes m old new writes = record {
-    others = λ told dimm other. writes.others told dimm (λ same. apart (sym other ∙ ap (is_among (handles region)) same ∙ known-there));
-    says = record { said = writes.said; say_faults = writes.say_faults; goes_on = writes.goes_on };
-  }
-    where
-      apart : false ≡ true → ⊥
-      apart e = cc
-
-  pub flip-cause : {R T : Type 0} (m : Ghosts R) (old new : R) (result : Result T AreaFailed) → FailsAt (dimm_at ms place.seat) m old new (is_err result) → IfErr result (λ failed. failed.dimm ≡ dimm_at ms place.seat)
-      → HasAreaCause (handles region) m old new result
-  flip-cause m old new (Ok value) fails named = record { faults = fails.faults; failed_dimm = fails.failed_dimm }
-  flip-cause m old new (Err failed) fails named = record {
-    fails = subst (λ d. FailsAt d m old new true) (sym named) fails;
-    known = ap (is_among (handles region)) named ∙ known-there;
-  }
-
   -- the module has no label with the uuid any longer
   pub label-lost : LosesLabel region u position L (without_slots_at (dimm_at ms place.seat) (place.slot ∷ []) L)
   label-lost = subst (λ h. LosesLabel region u position L (without_slots_at h (place.slot ∷ []) L)) (sym dimm-is)
       (loses L (all-bounded ms together.in_use) u x.handle place.slot place.label at.slot_within at.is at.has_uuid at.only region position refl)
 
-  -- what a stop leaves
-  pub flip-moment : {R : Type 0} (m : Ghosts R) (old new : R) → LeavesOnly m old new (LeftIn (map dimm_of ms) (m.said old) (IsOneOf L (without_slots_at (dimm_at ms place.seat) (place.slot ∷ []) L)))
-      → LeavesOnly m old new (LeftIn (map dimm_of ms) (m.said old) (IsBeforeOrLost region u position L))
-  flip-moment m old new left = weakened _ (LeftIn (map dimm_of ms) (m.said old) (IsBeforeOrLost region u position L)) (λ c is. record {
-    said_is = is.said_is;
-    labels = λ fair. elim (is.labels fair) [
-      | inl e ↦ inl e
-      | inr e ↦ inr (subst (LosesLabel region u position L) (sym e) label-lost)
-    ];
-  }) left
+  -- the flip is a pass of the region
+  pub flip-pass : {R T : Type 0} {m : Ghosts R} {old new : R} {result : Result T AreaFailed} {before now : Kept} → IsPass (dimm_at ms place.seat ∷ []) (IsOneOf L (without_slots_at (dimm_at ms place.seat) (place.slot ∷ []) L)) m before old now new result
+      → IsPass (handles region) (IsBeforeOrLost region u position L) m before old now new result
+  flip-pass pass = pass-within (handles region) known-there (pass-as (λ labels one. elim one [
+    | inl e ↦ inl e
+    | inr e ↦ inr (subst (LosesLabel region u position L) (sym e) label-lost)
+  ]) pass)
 
   -- Once the slot is freed
   module _ (now : List LoadedModule) (freed : IsFreedAt ms now place.seat (place.slot ∷ [])) where

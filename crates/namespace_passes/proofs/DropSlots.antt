@@ -22,7 +22,7 @@ use Rattle.region_labels.proofs.Seated.{handle-at, length-handles}
 use Rattle.module_flips.specs.Together.{free_slots}
 use Rattle.namespace_passes.specs.Passes.{label_number}
 use Rattle.namespace_passes.proofs.Leading.{member-named}
-use Rattle.namespace_passes.proofs.Passing.{at-place, each-length}
+use Rattle.module_flips.proofs.Passes.{at-place, each-length}
 use Rattle.namespace_passes.specs.Dropping.{GivesSlot, HasGiven, room_after_drop}
 
 -- The modules at the positions below one have given a label each, and all others are as they were.

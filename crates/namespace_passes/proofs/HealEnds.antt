@@ -1,8 +1,8 @@
 -- The labels of a namespace are healed one after the other, and then it is not pending.
 use Rattle.std.proofs.Common.{◌≡◌, ◌≢◌, inl, inr, ℕ, zero, suc, ◌+◌, ◌<◌, ◌≤◌, true, false, not, ◌&&◌, cond, List, [], ◌∷◌, length, Option, Some, None, refl, sym, ap, subst, ◌∙◌, arith}
-use Rattle.std.specs.Prelude.{nat_lt}
+use Rattle.std.specs.Prelude.{◌==◌, nat_lt}
 use Rattle.std.specs.List.{Contains}
-use Rattle.std.specs.Option.{option_map_or}
+use Rattle.std.specs.Option.{option_map, option_map_or}
 use Rattle.std.proofs.lemmas.Bool.{and_parts, and_right, cases_eq}
 use Rattle.label_codec.specs.declared.label.Label.{Label}
 use Rattle.label_codec.specs.Flags.{is_updating}
@@ -11,15 +11,16 @@ use Rattle.region_map.specs.declared.platform.Member.{Member}
 use Rattle.region_map.specs.declared.platform.Platform.{Platform}
 use Rattle.region_map.specs.declared.platform.Region.{Region}
 use Rattle.region_map.specs.Platforms.{region_at}
-use Rattle.label_table.specs.Belonging.{IsDisjoint, member_at}
-use Rattle.label_table.specs.Flips.{EachLabel}
+use Rattle.label_table.specs.Belonging.{IsDisjoint, member_at, no_member}
+use Rattle.label_table.specs.Fates.{without_slot}
+use Rattle.label_table.specs.Flips.{EachLabel, other_labels}
 use Rattle.label_table.specs.Spaces.{is_pending}
-use Rattle.label_table.specs.Tables.{changed_at, pending_at, state, table}
+use Rattle.label_table.specs.Tables.{changed_at, is_member, pending_at, state, table}
 use Rattle.label_table.specs.Wholes.{all_ready, any_read_only, any_updating, is_whole, is_whole_after, labels_with, leading_among, leading_label}
 use Rattle.label_table.proofs.Equations.{changed_at-same}
-use Rattle.label_table.proofs.ListTests.{list_any-never}
-use Rattle.namespace_passes.specs.Labels.{needs_healing}
-use Rattle.namespace_passes.specs.Namespaces.{IsAlikeAt, IsHealedTo, IsOpen, IsTurned}
+use Rattle.label_table.proofs.ListTests.{Contains-get_or, eq_same, list_any-at, list_any-never}
+use Rattle.namespace_passes.specs.Labels.{healed, needs_healing}
+use Rattle.namespace_passes.specs.Namespaces.{HasHeal, IsAlikeAt, IsHealedTo, IsOpen, IsTurned, label_at}
 use Rattle.namespace_passes.proofs.Alike.{well}
 use Rattle.namespace_passes.proofs.Leading.{each-label, leading-first, member-named, the-only}
 
@@ -31,6 +32,11 @@ healed-start P r u lead L is_open leads = record {
   stands = is_open;
   leads = leads;
   alike = λ position some below lt. absurd (omega (arith, some, below));
+  heal = λ position some below lt. absurd (omega (arith, some, below));
+  first = refl;
+  left = λ position above lt. refl;
+  others = λ handle. refl;
+  elsewhere = λ handle away. refl;
 }
 
 -- once the position is the number of members
@@ -41,6 +47,11 @@ healed-all P r u lead i start L le to = record {
   stands = to.stands;
   leads = to.leads;
   alike = λ j some below lt. to.alike j some (omega (arith, below, le)) lt;
+  heal = λ j some below lt. to.heal j some (omega (arith, below, le)) lt;
+  first = to.first;
+  left = λ j above lt. absurd (omega (arith, above, lt));
+  others = to.others;
+  elsewhere = to.elsewhere;
 }
 
 -- a region with a whole uuid has members
@@ -58,7 +69,32 @@ some-members r u L whole = by r.members refl
 module _ (P : Platform) (disjoint : IsDisjoint P) (r : Region) (r_in : Contains P.regions r) (u : List ℕ) (lead : Label) (start L M : Labels) where
   -- the label at another position stays
   away : (i j : ℕ) → i < length r.members → j < length r.members → j ≢ i → IsTurned P r u lead i L M → labels_with u M (member_at r j).handle ≡ labels_with u L (member_at r j).handle
-  away i j i_lt j_lt differ turn = turn.others (member_at r j).handle (λ same. differ (disjoint.positions r j i r_in j_lt i_lt same))
+  away i j i_lt j_lt differ turn = ap (of_uuid u) (turn.confined.others (member_at r j).handle (λ same. differ (disjoint.positions r j i r_in j_lt i_lt same)))
+
+  member : (i : ℕ) → i < length r.members → is_member r (member_at r i).handle ≡ true
+  member i lt = list_any-at (λ (y : Member). y.handle == (member_at r i).handle) r.members (member_at r i) (Contains-get_or r.members i no_member lt) (eq_same (member_at r i).handle (member_at r i).handle refl)
+
+  apart : false ≡ true → ⊥
+  apart e = cc
+
+  -- all other labels stay
+  rest-on : (i : ℕ) → IsTurned P r u lead i L M → (handle : ℕ) → other_labels u (M handle) ≡ other_labels u (L handle)
+  rest-on i turn handle = elim (cases_eq handle (member_at r i).handle) [
+    | inl e ↦ subst (λ h. other_labels u (M h) ≡ other_labels u (L h)) (sym e) turn.confined.rest
+    | inr differ ↦ ap (other_labels u) (turn.confined.others handle differ)
+  ]
+
+  outside-on : (i : ℕ) → i < length r.members → IsTurned P r u lead i L M → (handle : ℕ) → is_member r handle ≡ false → M handle ≡ L handle
+  outside-on i lt turn handle outside = turn.confined.others handle (λ same. absurd (apart (sym outside ∙ ap (is_member r) same ∙ member i lt)))
+
+  -- a label that was healed, or as it was, then and before
+  heal-on : (i j : ℕ) → label_at L r u j ≡ label_at start r u j → HasHeal r u lead j L M → HasHeal r u lead j start M
+  heal-on i j same (inl kept) = inl (kept ∙ same)
+  heal-on i j same (inr healed_there) = inr (healed_there ∙ ap (option_map (healed lead)) same)
+
+  heal-still : (j : ℕ) → label_at M r u j ≡ label_at L r u j → HasHeal r u lead j start L → HasHeal r u lead j start M
+  heal-still j same (inl kept) = inl (same ∙ kept)
+  heal-still j same (inr healed_there) = inr (ap (option_map without_slot) same ∙ healed_there)
 
   -- one turn more
   pub healed-more : (i : ℕ) → 0 < i → i < length r.members → IsHealedTo P r u lead i start L → IsTurned P r u lead i L M → IsHealedTo P r u lead (i + 1) start M
@@ -71,6 +107,14 @@ module _ (P : Platform) (disjoint : IsDisjoint P) (r : Region) (r_in : Contains 
       | inl e ↦ subst (λ k. IsAlikeAt M r u lead k) (sym e) turn.alike
       | inr differ ↦ λ l at. to.alike j j_some (omega (arith, below, differ)) j_lt l (sym (ap first (away i j lt j_lt differ turn)) ∙ at)
     ];
+    heal = λ j j_some below j_lt. elim (cases_eq j i) [
+      | inl e ↦ subst (λ k. HasHeal r u lead k start M) (sym e) (heal-on i i (to.left i (omega arith) lt) turn.heal)
+      | inr differ ↦ heal-still j (ap first (away i j lt j_lt differ turn)) (to.heal j j_some (omega (arith, below, differ)) j_lt)
+    ];
+    first = ap first (away i 0 lt first_lt (λ e. absurd (omega (arith, some, e))) turn) ∙ to.first;
+    left = λ j above j_lt. ap first (away i j lt j_lt (λ e. absurd (omega (arith, above, e))) turn) ∙ to.left j (omega (arith, above)) j_lt;
+    others = λ handle. rest-on i turn handle ∙ to.others handle;
+    elsewhere = λ handle outside. outside-on i lt turn handle outside ∙ to.elsewhere handle outside;
   }
     where
       first_lt : 0 < length r.members
@@ -103,6 +147,16 @@ module _ (P : Platform) (disjoint : IsDisjoint P) (r : Region) (r_in : Contains 
         let found : region_at P r.index ≡ Some r = disjoint.indexes r r_in in
         let here : pending_at P M r.index u ≡ false = (λ i. option_map_or (λ q. is_pending M q u) (found i) false) ∙ not-pending in
         sym (changed_at-same r u false (state P M).pending here) ∙ turn.same_marks ∙ to.same_marks
+
+    pub all-heal : (j : ℕ) → j < length r.members → HasHeal r u lead j start M
+    all-heal zero j_lt = heal-on 0 0 to.first turn.heal
+    all-heal (suc j) j_lt = heal-still (suc j) (ap first (away 0 (suc j) some j_lt (λ e. absurd (omega (arith, e))) turn)) (to.heal (suc j) (omega arith) (omega (arith, j_lt, all)) j_lt)
+
+    pub all-others : (handle : ℕ) → other_labels u (M handle) ≡ other_labels u (start handle)
+    all-others handle = rest-on 0 turn handle ∙ to.others handle
+
+    pub all-elsewhere : (handle : ℕ) → is_member r handle ≡ false → M handle ≡ start handle
+    all-elsewhere handle outside = outside-on 0 some turn handle outside ∙ to.elsewhere handle outside
 
     pub all-table : table P M ≡ table P start
     all-table = turn.same_table ∙ to.same_table

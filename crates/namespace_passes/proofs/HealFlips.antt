@@ -1,15 +1,12 @@
 -- The label of one position is replaced by a flip of the module there.
-use Rattle.std.proofs.Common.{◌≡◌, inl, inr, ℕ, ◌<◌, ◌+◌, true, false, is_some, List, length, get_or, map, Some, None, Result, Ok, Err, refl, sym, ap, subst, ◌∙◌, arith}
-use Rattle.std.specs.Prelude.{◌==◌, IfErr, OnErr, OnOk}
-use Rattle.std.specs.List.{All, AllZip}
+use Rattle.std.proofs.Common.{◌≡◌, inl, inr, ℕ, ◌<◌, ◌+◌, true, is_some, List, [], ◌∷◌, length, get_or, map, Some, None, Result, Ok, Err, refl, sym, ap, subst, ◌∙◌, arith}
+use Rattle.std.specs.Prelude.{◌==◌, OnErr, OnOk}
+use Rattle.std.specs.List.{AllZip}
 use Rattle.std.specs.Option.{option_map}
-use Rattle.std.specs.Result.{is_err}
 use Rattle.std.proofs.lemmas.Bool.{cases_eq}
 use Rattle.std.proofs.lemmas.List.{ext_get_or, get_or-map, length-map}
 use Rattle.std.proofs.lemmas.List.Folds.{list_any_at}
 use Rattle.rig_trait.specs.declared.shown.Shown.{Ghosts}
-use Rattle.rig_trait.specs.Frames.{FailsAt, IsTold, LeavesOnly, WritesTo}
-use Rattle.rig_trait.proofs.Moments.{weakened}
 use Rattle.label_codec.specs.declared.label.Label.{Label}
 use Rattle.label_codec.specs.ModuleLabels.{Labels, Module, number}
 use Rattle.label_area.specs.Flips.{Standing, at_slot, is_among}
@@ -17,7 +14,7 @@ use Rattle.region_map.specs.declared.platform.Member.{Member}
 use Rattle.region_map.specs.declared.platform.Platform.{Platform}
 use Rattle.region_map.specs.declared.platform.Region.{Region}
 use Rattle.label_table.specs.Belonging.{member_at, no_member}
-use Rattle.label_table.specs.Tables.{is_member, table}
+use Rattle.label_table.specs.Tables.{is_member}
 use Rattle.label_table.specs.Wholes.{any_label, labels_with, leading_label}
 use Rattle.label_table.proofs.ListTests.{Contains-get_or, eq_same, list_any-at}
 use Rattle.region_labels.specs.Changes.{IsChangedAt, dimm_at}
@@ -29,20 +26,21 @@ use Rattle.region_labels.specs.declared.modules.ModuleArea.{ModuleArea}
 use Rattle.region_labels.specs.declared.modules.ModuleArea.TheVariants.{Missing, WrongSize, Uninit, Foreign, Ready}
 use Rattle.region_labels.specs.declared.region.RegionLabels.{RegionLabels}
 use Rattle.region_labels.specs.Fates.{platform_of}
-use Rattle.region_labels.specs.Modules.{dimm_of, labels_in, module_in}
+use Rattle.region_labels.specs.Modules.{labels_in, module_in}
 use Rattle.region_labels.specs.Regions.{handles}
 use Rattle.region_labels.proofs.Seated.{handle-at, length-handles}
 use Rattle.module_flips.specs.Flips.{HasFreeIn, IsPutAt, IsReplaced, first_slot_in, with_put_at}
-use Rattle.module_flips.specs.Stops.{HasAreaCause, IsOneOf, LeftIn, WritesAmong}
+use Rattle.module_flips.specs.Passes.{IsPass, Kept}
+use Rattle.module_flips.specs.Stops.{IsOneOf}
 use Rattle.module_flips.specs.declared.flips.AreaFailed.{AreaFailed}
-use Rattle.module_flips.specs.Stored.{StandsIn}
 use Rattle.module_flips.specs.Together.{StaysTogether, free_slots, free_slots_of}
+use Rattle.module_flips.proofs.Passes.{pass-as, pass-within}
 use Rattle.namespace_passes.specs.declared.places.LabelPlace.{LabelPlace}
 use Rattle.namespace_passes.specs.Healing.{CanHeal, StandsAt}
-use Rattle.namespace_passes.specs.Passes.{HasTableOf, IsPass, label_number}
+use Rattle.namespace_passes.specs.Passes.{IsStill, label_number}
 use Rattle.namespace_passes.proofs.Bounded.{all-bounded}
 use Rattle.namespace_passes.proofs.Counts.{put-number}
-use Rattle.namespace_passes.proofs.Passing.{IsStill, still-kept}
+use Rattle.namespace_passes.proofs.Passing.{still-kept}
 use Rattle.namespace_passes.proofs.Replaced.{HasPlaces, IsLedAt}
 
 -- what stands for a module that is not there
@@ -64,10 +62,6 @@ on_ok (Err e) f a = tt
 on_ok4 : {T E A B C D F : Type 0} (r : Result T E) → (A → B → C → D → F) → OnOk r A → OnOk r B → OnOk r C → OnOk r D → OnOk r F
 on_ok4 (Ok t) f a b c d = f a b c d
 on_ok4 (Err x) f a b c d = tt
-
-on_err : {T E A B : Type 0} (r : Result T E) → (A → B) → OnErr r A → OnErr r B
-on_err (Ok t) f a = tt
-on_err (Err e) f a = f a
 
 on_err2 : {T E A B C : Type 0} (r : Result T E) → (A → B → C) → OnErr r A → OnErr r B → OnErr r C
 on_err2 (Ok t) f a b = tt
@@ -142,28 +136,10 @@ module _ (ms : List LoadedModule) (rs : List RegionLabels) (region : Region) (u 
   pub replaced-there : (d : LoadedModule) → IsReplaced (get_or ms place.seat d) (Some place.slot)
   replaced-there d = ap is_some (stored d)
 
-  known-there : is_among (handles region) (dimm_at ms place.seat) ≡ true
+  pub known-there : is_among (handles region) (dimm_at ms place.seat) ≡ true
   known-there =
       let below : position < length (handles region) = subst (λ n. position < n) (sym (length-handles region)) lt in
       list_any_at (λ h. dimm_at ms place.seat == h) (handles region) position 0 below (eq_same (dimm_at ms place.seat) (get_or (handles region) position 0) (dimm-is no_module ∙ sym (handle-at region position lt)))
-
-  -- the module is one of the region's
-  pub flip-writes : {R : Type 0} (m : Ghosts R) (old new : R) → WritesTo (dimm_at ms place.seat) m old new → WritesAmong (handles region) m old new
-  flip-writes m old new writes = record {
-    others = λ told dimm other. writes.others told dimm (λ same. apart (sym other ∙ ap (is_among (handles region)) same ∙ known-there));
-    says = record { said = writes.said; say_faults = writes.say_faults; goes_on = writes.goes_on };
-  }
-    where
-      apart : false ≡ true → ⊥
-      apart e = cc
-
-  pub flip-cause : {R T : Type 0} (m : Ghosts R) (old new : R) (result : Result T AreaFailed) → FailsAt (dimm_at ms place.seat) m old new (is_err result) → IfErr result (λ failed. failed.dimm ≡ dimm_at ms place.seat)
-      → HasAreaCause (handles region) m old new result
-  flip-cause m old new (Ok value) fails named = record { faults = fails.faults; failed_dimm = fails.failed_dimm }
-  flip-cause m old new (Err failed) fails named = record {
-    fails = subst (λ d. FailsAt d m old new true) (sym named) fails;
-    known = ap (is_among (handles region)) named ∙ known-there;
-  }
 
   -- The label is replaced by another one.
   module _ (label : Label) (within : (d : LoadedModule) → first_slot_in (get_or ms place.seat d) < (module_in (get_or ms place.seat d)).slots)
@@ -203,29 +179,10 @@ module _ (ms : List LoadedModule) (rs : List RegionLabels) (region : Region) (u 
           rooms = subst (λ o. AllZip (KeepsRegion (room_after_put (dimm_at ms place.seat) o)) rs regions_now) (ap (option_map (λ (l : Label). record { uuid = l.uuid; slot = place.slot })) (stored no_module)) kept_rooms;
         }
 
-    -- what a stop leaves fits as the labels before and after do
-    pub flip-moment : {R : Type 0} (m : Ghosts R) (old new : R) (fits : Labels → Type 0) → fits L → fits (after no_module) → LeavesOnly m old new (LeftIn (map dimm_of ms) (m.said old) (IsOneOf L (after no_module)))
-        → LeavesOnly m old new (LeftIn (map dimm_of ms) (m.said old) fits)
-    flip-moment m old new fits before afterwards left = weakened _ (LeftIn (map dimm_of ms) (m.said old) fits) (λ c is. record {
-      said_is = is.said_is;
-      labels = λ fair. elim (is.labels fair) [
-        | inl e ↦ subst fits (sym e) before
-        | inr e ↦ subst fits (sym e) afterwards
-      ];
-    }) left
-
-    -- where the table is kept
-    pub flip-pass : {R T E : Type 0} (m : Ghosts R) (old new : R) (result : Result T E) (now : List LoadedModule) (regions_now : List RegionLabels) → table P (after no_module) ≡ table P L → IsStill ms rs now regions_now
-        → OnOk result (labels_in now ≡ after no_module) → OnErr result (now ≡ ms)
-        → (IsTold m old → All (StandsIn (m.areas old)) ms → LeavesOnly m old new (LeftIn (map dimm_of ms) (m.said old) (IsOneOf L (after no_module))))
-        → WritesTo (dimm_at ms place.seat) m old new → m.reads new ≡ m.reads old → IsPass (handles region) m ms rs old now regions_now new
-    flip-pass m old new result now regions_now same still labels kept left writes reads = record {
-      together = still.together;
-      same_free = still.same_free;
-      same_counts = still.same_counts;
-      rooms = still.rooms;
-      same_table = either result (on_ok result (λ are. ap (table P) are ∙ same) labels) (on_err result (λ are. ap (λ (xs : List LoadedModule). table P (labels_in xs)) are) kept);
-      any_moment = λ told all. flip-moment m old new (HasTableOf ms rs) refl same (left told all);
-      writes = flip-writes m old new writes;
-      reads = reads;
-    }
+    -- The flip is a pass of the region: what fits the labels before and after it fits.
+    pub flip-pass : {R T : Type 0} {m : Ghosts R} {old new : R} {result : Result T AreaFailed} {before now : Kept} (fits : Labels → Type 0) → fits L → fits (after no_module)
+        → IsPass (dimm_at ms place.seat ∷ []) (IsOneOf L (after no_module)) m before old now new result → IsPass (handles region) fits m before old now new result
+    flip-pass fits before_fits after_fits pass = pass-within (handles region) known-there (pass-as (λ labels one. elim one [
+      | inl e ↦ subst fits (sym e) before_fits
+      | inr e ↦ subst fits (sym e) after_fits
+    ]) pass)

@@ -1,7 +1,8 @@
 -- A label of a namespace is healed: the table is kept, and the marks of all other namespaces.
-use Rattle.std.proofs.Common.{◌≡◌, ◌≢◌, ℕ, zero, suc, ◌<◌, true, false, not, ◌&&◌, cond, List, length, drop, Some, refl, sym, ap, subst, ◌∙◌, arith}
+use Rattle.std.proofs.Common.{◌≡◌, ◌≢◌, inr, ℕ, zero, suc, ◌<◌, true, false, not, ◌&&◌, cond, List, length, drop, Some, refl, sym, ap, subst, ◌∙◌, arith}
 use Rattle.std.specs.Prelude.{◌==◌, ◌||◌}
 use Rattle.std.specs.List.{Contains}
+use Rattle.std.specs.Option.{option_map}
 use Rattle.label_codec.specs.declared.label.Label.{Label}
 use Rattle.label_codec.specs.Flags.{is_updating}
 use Rattle.label_codec.specs.ModuleLabels.{Labels, first, of_uuid}
@@ -10,13 +11,14 @@ use Rattle.region_map.specs.declared.platform.Member.{Member}
 use Rattle.region_map.specs.declared.platform.Platform.{Platform}
 use Rattle.region_map.specs.declared.platform.Region.{Region}
 use Rattle.label_table.specs.Belonging.{belongs, member_at, offset_in}
+use Rattle.label_table.specs.Fates.{without_slot}
 use Rattle.label_table.specs.Spaces.{space, space_if, space_of}
 use Rattle.label_table.specs.Tables.{table}
 use Rattle.label_table.specs.Wholes.{any_read_only, has_size, labels_with, leading_label, sizes_agree}
 use Rattle.label_table.proofs.Changing.{replaced-elsewhere, replaced-kept}
 use Rattle.label_table.proofs.ListTests.{eq_same, some_is}
 use Rattle.namespace_passes.specs.Healing.{HaveOneSize}
-use Rattle.namespace_passes.specs.Labels.{healed_label, needs_healing}
+use Rattle.namespace_passes.specs.Labels.{healed, healed_label, needs_healing}
 use Rattle.namespace_passes.specs.Namespaces.{IsAlikeAt, IsTurned}
 use Rattle.namespace_passes.proofs.Alike.{belongs-healed, is-well, read_only-kept, well}
 use Rattle.namespace_passes.proofs.Leading.{first-is, member-named, the-only}
@@ -56,7 +58,8 @@ module _ (P : Platform) (r : Region) (u : List ℕ) (L : Labels) (lead : Label) 
       same_marks = replaced.marks P r u L lead position led old slot own new it stays now offset leads_now sizes;
       stands = replaced.open_after P r u L lead position led old slot own new it stays now offset leads_now sizes;
       alike = λ l at. subst (λ (a : Label). needs_healing lead a ≡ false) (some_is (sym (replaced.only_new P r u L lead position led old slot own new it).first_is ∙ at)) (is-well lead own slot);
-      others = replaced.elsewhere P r u L lead position led old slot own new it;
+      heal = inr (ap (option_map without_slot) (replaced.only_new P r u L lead position led old slot own new it).first_is ∙ sym (ap (option_map (healed lead)) places.only.first_is));
+      confined = replaced.confined P r u L lead position led old slot own new it;
     }
 
     writable_after : any_read_only r (labels_with u M) ≡ false

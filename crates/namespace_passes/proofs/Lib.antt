@@ -20,12 +20,8 @@ pub mod Marks
 pub mod MarkTurns
 pub mod MarkEnds
 pub mod MarkFlips
-pub mod DropSeats
 pub mod Freeing
-pub mod DropFreeSlots
 pub mod DropFlips
 pub mod DropEnds
 pub mod DropSlots
-pub mod DropTurns
 pub mod Dropped
-pub mod Gone

@@ -1,21 +1,16 @@
--- What several flips write, and what a stop within one of them leaves.
-use Rattle.std.proofs.Common.{◌≡◌, inl, inr, ℕ, ◌<◌, true, false, eq-eqb, List, length, refl, sym, ap, subst, ◌∙◌, arith}
+-- What several flips write.
+use Rattle.std.proofs.Common.{◌≡◌, ℕ, ◌<◌, true, false, eq-eqb, List, length, refl, sym, ap, subst, ◌∙◌, arith}
 use Rattle.std.specs.Prelude.{◌==◌}
 use Rattle.std.proofs.lemmas.List.Folds.{list_any_at}
 use Rattle.rig_trait.specs.declared.shown.Shown.{Ghosts}
-use Rattle.rig_trait.specs.Faults.{counted}
-use Rattle.rig_trait.specs.Frames.{FailsAt, GoesOn, LeavesOnly, WritesTo}
+use Rattle.rig_trait.specs.Frames.{GoesOn, WritesTo}
 use Rattle.rig_trait.proofs.Frames.{goes_on}
-use Rattle.rig_trait.proofs.Moments.{weakened}
-use Rattle.label_codec.specs.ModuleLabels.{Labels}
 use Rattle.label_area.specs.Flips.{is_among}
 use Rattle.region_map.specs.declared.platform.Region.{Region}
 use Rattle.region_labels.specs.Regions.{handles}
 use Rattle.region_labels.proofs.Seated.{length-handles}
 use Rattle.region_labels.specs.Followed.{handle_at}
-use Rattle.module_flips.specs.Stops.{FailedAmong, IsOneOf, LeftIn, WritesAmong}
-use Rattle.module_flips.specs.declared.flips.AreaFailed.{AreaFailed}
-use Rattle.module_flips.proofs.Turned.{turned}
+use Rattle.module_flips.specs.Stops.{WritesAmong}
 
 apart : {A : Type 0} → true ≡ false → A
 apart e = absurd cc
@@ -46,28 +41,3 @@ module _ {R : Type 0} {m : Ghosts R} where
       goes_on = goes_on first.says.goes_on second.goes_on;
     };
   }
-
-  -- a call failed, after others that didn't
-  pub failed_behind : {old mid new : R} (hs : List ℕ) (dimm : ℕ) (failed : AreaFailed) → is_among hs dimm ≡ true → failed.dimm ≡ dimm → FailsAt 0 m old mid false → FailsAt dimm m mid new true → FailedAmong hs m old new failed
-  failed_behind {old} {mid} {new} hs dimm failed known names first second = record {
-    fails = subst (λ d. FailsAt d m old new true) (sym names) (record {
-      faults = second.faults ∙ ap (λ n. counted true n) first.faults;
-      failed_dimm = second.failed_dimm;
-    });
-    known = ap (is_among hs) names ∙ known;
-  }
-
-  -- what fits the labels before a flip and those after it fits what a stop leaves
-  pub both_fit : {old new : R} (modules said : List ℕ) (before after : Labels) (fits : Labels → Type 0) → fits before → fits after → LeavesOnly m old new (LeftIn modules said (IsOneOf before after)) → LeavesOnly m old new (LeftIn modules said fits)
-  both_fit modules said before after fits fits_before fits_after = weakened _ (LeftIn modules said fits) (λ c left. record {
-    said_is = left.said_is;
-    labels = λ fair. elim (left.labels fair) [
-      | inl e ↦ subst fits (sym e) fits_before
-      | inr e ↦ subst fits (sym e) fits_after
-    ];
-  })
-
-  -- what a stop within several flips leaves, and within one more
-  pub one_turn_more : {old mid new : R} (modules same : List ℕ) (fits : Labels → Type 0) → same ≡ modules → m.said mid ≡ m.said old → LeavesOnly m old mid (LeftIn modules (m.said old) fits) → LeavesOnly m mid new (LeftIn same (m.said mid) fits)
-      → LeavesOnly m old new (LeftIn modules (m.said old) fits)
-  one_turn_more {old} {mid} {new} modules same fits is said first turn = turned modules fits first said (subst (λ hs. LeavesOnly m mid new (LeftIn hs (m.said mid) fits)) is turn)

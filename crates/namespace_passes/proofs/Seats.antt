@@ -4,7 +4,7 @@ use Rattle.std.specs.Prelude.{slice_index}
 use Rattle.std.specs.List.{Contains}
 use Rattle.std.proofs.lemmas.List.{get_or-map, length-map}
 use Rattle.label_codec.specs.declared.label.Label.{Label}
-use Rattle.label_codec.specs.ModuleLabels.{Module, has, number}
+use Rattle.label_codec.specs.ModuleLabels.{Labels, Module, has, number}
 use Rattle.region_map.specs.declared.platform.Region.{Region}
 use Rattle.region_map.specs.Platforms.{region_at}
 use Rattle.label_table.specs.Belonging.{IsDisjoint, member_at, no_member}
@@ -24,7 +24,7 @@ use Rattle.region_labels.specs.Regions.{IsOver}
 use Rattle.region_labels.proofs.Found.{number-with, only-live}
 use Rattle.region_labels.proofs.Seated.{found-here}
 use Rattle.module_flips.specs.Together.{IsTogether}
-use Rattle.namespace_passes.specs.Healing.{StandsAt}
+use Rattle.namespace_passes.specs.Healing.{HasOneAt, StandsAt}
 
 -- indexes of regions stand once
 pub named-by-index : (rs : List RegionLabels) → IsDisjoint (platform_of rs) → (k : ℕ) (kept : RegionLabels) → k < length rs → kept ≡ get_or rs k kept → (region : Region) → Contains (map region_in rs) region
@@ -33,8 +33,12 @@ named-by-index rs disjoint k kept lt is region there same =
     let listed : Contains (map region_in rs) kept.region = (k, subst (λ n. k < n) (sym (length-map rs region_in)) lt, get_or-map region_in rs k kept kept.region lt ∙ ap region_in (sym is)) in
     some_is (sym (disjoint.indexes kept.region listed) ∙ ap (region_at (platform_of rs)) same ∙ disjoint.indexes region there)
 
+-- a namespace that stands has one label at each position
+pub one-at : (L : Labels) (region : Region) (u : List ℕ) (position : ℕ) → is_whole L region u ≡ true → position < length region.members → HasOneAt L region u position
+one-at L region u position whole lt = whole-count region u L (member_at region position) whole (Contains-get_or region.members position no_member lt)
+
 module _ (ms : List LoadedModule) (rs : List RegionLabels) (region : Region) (u : List ℕ) (position : ℕ) (kept : RegionLabels) (together : IsTogether ms rs) (named : kept.region ≡ region) (among : Contains rs kept)
-    (whole : is_whole (labels_in ms) region u ≡ true) (lt : position < length region.members) where
+    (one : HasOneAt (labels_in ms) region u position) (lt : position < length region.members) where
   abbrev here : Module
   here = labels_in ms (member_at region position).handle
 
@@ -48,7 +52,7 @@ module _ (ms : List LoadedModule) (rs : List RegionLabels) (region : Region) (u 
   found f is = subst (λ (r : Region). IsFoundLabel u (labels_in ms (member_at r position).handle) f) named (found-here u kept.region (labels_in ms) kept.index.entries position f is is-over.index is-position)
 
   number-one : number (has u) here ≡ 1
-  number-one = sym (number-with u here) ∙ whole-count region u (labels_in ms) (member_at region position) whole (Contains-get_or region.members position no_member lt)
+  number-one = sym (number-with u here) ∙ one
 
   pub not-nowhere : IsFoundInLabels u position kept.index.entries Nowhere → ⊥
   not-nowhere is = let none : number (has u) here ≡ 0 = found Nowhere is in absurd (omega (arith, none, number-one))

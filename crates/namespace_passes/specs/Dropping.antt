@@ -8,7 +8,7 @@ use Rattle.region_map.specs.declared.platform.Region.{Region}
 use Rattle.label_table.specs.Belonging.{member_at}
 use Rattle.label_table.specs.Flips.{AllStale, HasNone, IsConfined, other_labels}
 use Rattle.label_table.specs.Tables.{is_member, slot_of, state, without_namespace}
-use Rattle.label_table.specs.Wholes.{is_whole, label_count, labels_with}
+use Rattle.label_table.specs.Wholes.{is_whole}
 use Rattle.region_labels.specs.declared.modules.LoadedModule.{LoadedModule}
 use Rattle.region_labels.specs.declared.region.RegionLabels.{RegionLabels}
 use Rattle.region_labels.specs.Fates.{platform_of, region_in}
@@ -65,10 +65,6 @@ IsKeptOrGone modules regions region uuid now = (now ≡ modules) ⊎ IsGone modu
 -- the room in the index of a region after each module of one has lost a label
 abbrev pub room_after_drop : Region → RegionLabels → ℕ
 room_after_drop region kept = kept.index.room + room_for (handles region) kept.region
-
--- the module at a position has one label with the uuid
-abbrev pub HasOneAt : Labels → Region → List ℕ → ℕ → Type 0
-HasOneAt labels region uuid position = label_count (labels_with uuid labels) (member_at region position).handle ≡ 1
 
 -- The module at a position has no label with the uuid any longer, and all other labels are kept.
 pub record LosesLabel (region : Region) (uuid : List ℕ) (position : ℕ) (before after : Labels) : Type 0 where

@@ -4,6 +4,7 @@ use Rattle.std.specs.Str.{bytes_eq}
 use Rattle.label_codec.specs.declared.label.Label.{Label}
 use Rattle.label_codec.specs.Flags.{is_updating}
 use Rattle.label_codec.specs.Names.{name_before_zero}
+use Rattle.label_table.specs.Fates.{without_slot}
 
 -- all flags but UPDATING
 abbrev pub without_updating : ℕ → ℕ
@@ -32,3 +33,7 @@ healed_label leading own = record own {
   raw_size = leading.raw_size;
   abstraction = leading.abstraction;
 }
+
+-- the same without the number of the slot, which the flip sets
+abbrev pub healed : Label → Label → Label
+healed leading own = without_slot (healed_label leading own)

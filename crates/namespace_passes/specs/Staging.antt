@@ -1,7 +1,10 @@
 -- A namespace is staged: its labels are put into the modules of its region, by position.
-use Rattle.std.specs.Prelude.{◌≡◌, ◌≢◌, ℕ, ◌+◌, ◌^◌, ◌≤◌, ◌<◌, true, List, drop, length, slice_index_or}
+use Rattle.std.specs.Prelude.{◌≡◌, ◌≢◌, ℕ, ◌+◌, ◌^◌, ◌≤◌, ◌<◌, true, List, Some, drop, length, slice_index_or}
 use Rattle.std.specs.List.{All, Contains}
 use Rattle.view_types.specs.declared.namespaces.Namespace.{Namespace}
+use Rattle.label_area.specs.Flips.{at_slot}
+use Rattle.label_codec.specs.declared.label.Label.{Label}
+use Rattle.label_codec.specs.ModuleLabels.{Labels, has}
 use Rattle.region_map.specs.declared.platform.Member.{Member}
 use Rattle.region_map.specs.declared.platform.Region.{Region}
 use Rattle.label_table.specs.Belonging.{member_at}
@@ -19,7 +22,7 @@ use Rattle.region_labels.specs.Followed.{handle_at}
 use Rattle.region_labels.specs.Rooms.{HasRoom, HasRoomFor, HasRoomForAll}
 use Rattle.region_labels.specs.GainedSpaces.{GainsNamespace}
 use Rattle.module_flips.specs.Together.{IsTogether, StaysTogether, free_slots}
-use Rattle.namespace_passes.specs.Staged.{IsStagedTo}
+use Rattle.namespace_passes.specs.Staged.{IsStagedTo, staged_label}
 
 -- The modules of a region have room for a label more of a namespace that is new, and the namespace lies in the region.
 pub record CanStage (modules : List LoadedModule) (regions : List RegionLabels) (region : Region)
@@ -46,6 +49,12 @@ pub record IsStaged (modules : List LoadedModule) (regions : List RegionLabels) 
   pub free : (place : ℕ) (d : LoadedModule) → place < length modules
       → free_slots (slice_index_or now place d) + slot_of region (slice_index_or modules place d).dimm
       ≡ free_slots (slice_index_or modules place d)
+
+-- each label of the namespace is the staged one of its position, wherever its slot is
+abbrev pub AreStaged : Region → Namespace → Labels → Type 0
+AreStaged region space labels = (position slot : ℕ) (label : Label) → position < length region.members
+    → (labels (member_at region position).handle).at slot ≡ Some label → has space.uuid label ≡ true
+    → label ≡ at_slot slot (staged_label region space position)
 
 -- The labels of the positions below one are put into their modules. Each of these has given a slot, the others have
 -- theirs, and there is room for the labels that are to come.

@@ -2,20 +2,18 @@
 
 ghost use Rattle.std.specs.Prelude.{◌≡◌, ◌<◌, OnErr, OnOk, length, map};
 ghost use Rattle.std.specs.List.{All, AllZip, Contains};
-ghost use Rattle.rig_trait.specs.Frames.{IsTold, LeavesOnly};
 ghost use Rattle.label_table.specs.Belonging.{member_at};
 ghost use Rattle.region_labels.specs.Rooms.{KeepsRegion, room_after_free};
 ghost use Rattle.region_labels.specs.Fates.{platform_of, region_in};
-ghost use Rattle.region_labels.specs.Modules.{dimm_of, labels_in};
+ghost use Rattle.region_labels.specs.Modules.{labels_in};
 ghost use Rattle.region_labels.specs.Regions.{handles};
-ghost use Rattle.module_flips.specs.Flips.{IsSizedIn};
-ghost use Rattle.module_flips.specs.Stops.{HasAreaCause, LeftIn, WritesAmong};
-ghost use Rattle.module_flips.specs.Stored.{StandsIn};
 ghost use Rattle.module_flips.specs.Together.{IsTogether, StaysTogether};
-ghost use Rattle.namespace_passes.specs.Dropping.{CanDrop, HasOneAt, IsBeforeOrLost, IsBeforeOrWithout, IsDropped};
+ghost use Rattle.namespace_passes.specs.Dropping.{CanDrop, IsBeforeOrLost, IsBeforeOrWithout, IsDropped};
+ghost use Rattle.namespace_passes.specs.Healing.{HasOneAt};
 ghost use Rattle.namespace_passes.specs.Dropping.{GivesSlot, IsKeptOrGone, LosesLabel, room_after_drop};
+ghost use Rattle.module_flips.specs.Passes.{AreSized, IsPass, kept_of};
 
-use crate::drop_places::place_of;
+use crate::places::place_of;
 use module_flips::{AreaFailed, free_at};
 use region_labels::{LoadedModule, RegionLabels, SlotLabel};
 use region_map::Region;
@@ -35,20 +33,12 @@ pub fn drop_labels<R: Rig>(
     uuid: &[u8; 16],
 ) -> Result<(), AreaFailed>
     requires can { CanDrop modules.old regions.old region.now uuid.now }
-    requires sized { IsTold R.Shown rig.old → All (IsSizedIn (R.areas rig.old)) modules.old }
+    requires sized { AreSized R.Shown rig.old modules.old }
     ensures dropped { OnOk result (IsDropped modules.old regions.old region.now uuid.now modules.new) }
     ensures failed { OnErr result (IsKeptOrGone modules.old regions.old region.now uuid.now modules.new) }
-    ensures either { IsBeforeOrWithout (platform_of regions.old) region.now uuid.now (labels_in modules.old)
-        (labels_in modules.new) }
     ensures together { StaysTogether modules.old regions.old modules.new regions.new }
-    ensures stands { IsTold R.Shown rig.old → All (StandsIn (R.areas rig.old)) modules.old
-        → OnOk result (All (StandsIn (R.areas rig.new)) modules.new) }
-    ensures any_moment { IsTold R.Shown rig.old → All (StandsIn (R.areas rig.old)) modules.old
-        → LeavesOnly R.Shown rig.old rig.new (LeftIn (map dimm_of modules.old) (R.said rig.old)
-        (IsBeforeOrWithout (platform_of regions.old) region.now uuid.now (labels_in modules.old))) }
-    ensures writes_among { WritesAmong (handles region.now) R.Shown rig.old rig.new }
-    ensures cause { HasAreaCause (handles region.now) R.Shown rig.old rig.new result }
-    ensures reads { R.reads rig.new ≡ R.reads rig.old }
+    ensures pass { IsPass (handles region.now) (IsBeforeOrWithout (platform_of regions.old) region.now uuid.now (labels_in modules.old))
+        R.Shown (kept_of modules.old regions.old) rig.old (kept_of modules.new regions.new) rig.new result }
     ensures room { OnOk result (AllZip (KeepsRegion (room_after_drop region.now)) regions.old regions.new) }
 {
     for position in 0..region.members.len() {
@@ -73,21 +63,15 @@ fn drop_at<R: Rig>(
     requires together { IsTogether modules.old regions.old }
     requires region_in { Contains (map region_in regions.old) region.now }
     requires one { HasOneAt (labels_in modules.old) region.now uuid.now position }
-    requires sized { IsTold R.Shown rig.old → All (IsSizedIn (R.areas rig.old)) modules.old }
+    requires sized { AreSized R.Shown rig.old modules.old }
     ensures lost { OnOk result
         (LosesLabel region.now uuid.now position (labels_in modules.old) (labels_in modules.new)) }
     ensures gives { OnOk result (GivesSlot (member_at region.now position).handle modules.old modules.new) }
     ensures kept { OnErr result (modules.new ≡ modules.old) }
     ensures kept_regions { OnErr result (regions.new ≡ regions.old) }
     ensures together { StaysTogether modules.old regions.old modules.new regions.new }
-    ensures stands { IsTold R.Shown rig.old → All (StandsIn (R.areas rig.old)) modules.old
-        → OnOk result (All (StandsIn (R.areas rig.new)) modules.new) }
-    ensures any_moment { IsTold R.Shown rig.old → All (StandsIn (R.areas rig.old)) modules.old
-        → LeavesOnly R.Shown rig.old rig.new (LeftIn (map dimm_of modules.old) (R.said rig.old)
-        (IsBeforeOrLost region.now uuid.now position (labels_in modules.old))) }
-    ensures writes_among { WritesAmong (handles region.now) R.Shown rig.old rig.new }
-    ensures cause { HasAreaCause (handles region.now) R.Shown rig.old rig.new result }
-    ensures reads { R.reads rig.new ≡ R.reads rig.old }
+    ensures pass { IsPass (handles region.now) (IsBeforeOrLost region.now uuid.now position (labels_in modules.old))
+        R.Shown (kept_of modules.old regions.old) rig.old (kept_of modules.new regions.new) rig.new result }
     ensures room { OnOk result (AllZip (KeepsRegion (room_after_free (member_at region.now position).handle 1))
         regions.old regions.new) }
 {

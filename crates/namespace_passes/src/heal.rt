@@ -1,22 +1,15 @@
 //! The labels of a namespace are healed, one flip for each that needs it.
 
-ghost use Rattle.std.specs.Prelude.{◌≡◌, ◌<◌, Some, OnOk, length, map};
-ghost use Rattle.std.specs.List.{All, AllZip};
-ghost use Rattle.rig_trait.specs.Frames.{IsTold, LeavesOnly};
+ghost use Rattle.std.specs.Prelude.{◌≡◌, ◌<◌, Some, OnOk, length};
 ghost use Rattle.label_codec.specs.declared.label.Label.{Label};
-ghost use Rattle.label_table.specs.Tables.{table};
 ghost use Rattle.label_table.specs.Wholes.{labels_with, leading_label};
-ghost use Rattle.region_labels.specs.Rooms.{KeepsRegion};
 ghost use Rattle.region_labels.specs.Fates.{platform_of};
-ghost use Rattle.region_labels.specs.Modules.{dimm_of, labels_in};
+ghost use Rattle.region_labels.specs.Modules.{labels_in};
 ghost use Rattle.region_labels.specs.Regions.{handles};
-ghost use Rattle.module_flips.specs.Flips.{IsSizedIn};
-ghost use Rattle.module_flips.specs.Stops.{HasAreaCause, LeftIn, WritesAmong};
-ghost use Rattle.module_flips.specs.Stored.{StandsIn};
-ghost use Rattle.module_flips.specs.Together.{StaysTogether};
 ghost use Rattle.namespace_passes.specs.Healing.{CanHeal, CanTurn, IsHealed};
 ghost use Rattle.namespace_passes.specs.Namespaces.{IsAlikeAt, IsHealedTo, IsTurned, IsWellFrom};
-ghost use Rattle.namespace_passes.specs.Passes.{IsPass, label_number, room_in};
+ghost use Rattle.module_flips.specs.Passes.{AreSized, IsPass, kept_of};
+ghost use Rattle.namespace_passes.specs.Passes.{HasTableOf, IsStill};
 
 use crate::labels::{healed_label, needs_healing};
 use crate::places::place_at;
@@ -39,21 +32,11 @@ pub fn heal_labels<R: Rig>(
     uuid: &[u8; 16],
 ) -> Result<(), AreaFailed>
     requires heal { CanHeal modules.old regions.old region.now uuid.now }
-    requires sized { IsTold R.Shown rig.old → All (IsSizedIn (R.areas rig.old)) modules.old }
+    requires sized { AreSized R.Shown rig.old modules.old }
     ensures healed { OnOk result (IsHealed modules.old regions.old region.now uuid.now modules.new) }
-    ensures table { table (platform_of regions.old) (labels_in modules.new)
-        ≡ table (platform_of regions.old) (labels_in modules.old) }
-    ensures together { StaysTogether modules.old regions.old modules.new regions.new }
-    ensures stands { IsTold R.Shown rig.old → All (StandsIn (R.areas rig.old)) modules.old
-        → OnOk result (All (StandsIn (R.areas rig.new)) modules.new) }
-    ensures any_moment { IsTold R.Shown rig.old → All (StandsIn (R.areas rig.old)) modules.old
-        → LeavesOnly R.Shown rig.old rig.new (LeftIn (map dimm_of modules.old) (R.said rig.old)
-        (λ labels. table (platform_of regions.old) labels ≡ table (platform_of regions.old) (labels_in modules.old))) }
-    ensures writes_among { WritesAmong (handles region.now) R.Shown rig.old rig.new }
-    ensures cause { HasAreaCause (handles region.now) R.Shown rig.old rig.new result }
-    ensures reads { R.reads rig.new ≡ R.reads rig.old }
-    ensures room { AllZip (KeepsRegion room_in) regions.old regions.new }
-    ensures counts { map label_number modules.new ≡ map label_number modules.old }
+    ensures still { IsStill modules.old regions.old modules.new regions.new }
+    ensures pass { IsPass (handles region.now) (HasTableOf modules.old regions.old)
+        R.Shown (kept_of modules.old regions.old) rig.old (kept_of modules.new regions.new) rig.new result }
     ensures idle { (leading : Label) → leading_label region.now (labels_with uuid.now (labels_in modules.old))
         ≡ Some leading → IsWellFrom 0 (labels_in modules.old) region.now uuid.now leading → rig.new ≡ rig.old }
 {
@@ -75,14 +58,12 @@ fn heal_others<R: Rig>(
 ) -> Result<(), AreaFailed>
     requires heal { CanHeal modules.old regions.old region.now uuid.now }
     requires leads { leading_label region.now (labels_with uuid.now (labels_in modules.old)) ≡ Some leading.now }
-    requires sized { IsTold R.Shown rig.old → All (IsSizedIn (R.areas rig.old)) modules.old }
+    requires sized { AreSized R.Shown rig.old modules.old }
     ensures healed { OnOk result (IsHealedTo (platform_of regions.old) region.now uuid.now leading.now
         (length region.now.members) (labels_in modules.old) (labels_in modules.new)) }
-    ensures pass { IsPass (handles region.now) R.Shown
-        modules.old regions.old rig.old modules.new regions.new rig.new }
-    ensures stands { IsTold R.Shown rig.old → All (StandsIn (R.areas rig.old)) modules.old
-        → OnOk result (All (StandsIn (R.areas rig.new)) modules.new) }
-    ensures cause { HasAreaCause (handles region.now) R.Shown rig.old rig.new result }
+    ensures still { IsStill modules.old regions.old modules.new regions.new }
+    ensures pass { IsPass (handles region.now) (HasTableOf modules.old regions.old)
+        R.Shown (kept_of modules.old regions.old) rig.old (kept_of modules.new regions.new) rig.new result }
     ensures idle { IsWellFrom 1 (labels_in modules.old) region.now uuid.now leading.now
         → (rig.new ≡ rig.old) × (modules.new ≡ modules.old) }
 {
@@ -108,14 +89,12 @@ fn heal_at<R: Rig>(
 ) -> Result<(), AreaFailed>
     requires within { position < length region.now.members }
     requires turn { CanTurn modules.old regions.old region.now uuid.now leading.now position }
-    requires sized { IsTold R.Shown rig.old → All (IsSizedIn (R.areas rig.old)) modules.old }
+    requires sized { AreSized R.Shown rig.old modules.old }
     ensures turned { OnOk result (IsTurned (platform_of regions.old) region.now uuid.now leading.now position
         (labels_in modules.old) (labels_in modules.new)) }
-    ensures pass { IsPass (handles region.now) R.Shown
-        modules.old regions.old rig.old modules.new regions.new rig.new }
-    ensures stands { IsTold R.Shown rig.old → All (StandsIn (R.areas rig.old)) modules.old
-        → OnOk result (All (StandsIn (R.areas rig.new)) modules.new) }
-    ensures cause { HasAreaCause (handles region.now) R.Shown rig.old rig.new result }
+    ensures still { IsStill modules.old regions.old modules.new regions.new }
+    ensures pass { IsPass (handles region.now) (HasTableOf modules.old regions.old)
+        R.Shown (kept_of modules.old regions.old) rig.old (kept_of modules.new regions.new) rig.new result }
     ensures idle { IsAlikeAt (labels_in modules.old) region.now uuid.now leading.now position
         → (rig.new ≡ rig.old) × (modules.new ≡ modules.old) }
 {

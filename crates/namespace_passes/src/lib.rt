@@ -2,7 +2,6 @@
 //! as being changed, given another name, or freed (UEFI 2.7, section 13.19).
 #![tactic(auto)]
 
-mod drop_places;
 mod dropping;
 mod heal;
 mod labels;
@@ -12,7 +11,6 @@ mod places;
 mod renaming;
 mod staging;
 
-pub use drop_places::is_gone;
 pub use dropping::drop_labels;
 pub use heal::heal_labels;
 pub use marking::mark_labels;

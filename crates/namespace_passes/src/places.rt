@@ -8,7 +8,7 @@ ghost use Rattle.region_labels.specs.Fates.{platform_of, region_in};
 ghost use Rattle.region_labels.specs.Modules.{labels_in};
 ghost use Rattle.region_labels.specs.Regions.{IsOver};
 ghost use Rattle.module_flips.specs.Together.{IsTogether};
-ghost use Rattle.namespace_passes.specs.Healing.{StandsAt};
+ghost use Rattle.namespace_passes.specs.Healing.{HasOneAt, StandsAt};
 
 use label_codec::Label;
 use region_labels::{LoadedModule, RegionLabels};
@@ -36,6 +36,23 @@ pub fn place_at(
     requires region_in { Contains (map region_in regions.now) region.now }
     requires whole { is_whole (labels_in modules.now) region.now uuid.now ≡ true }
     requires position { position < length region.now.members }
+    ensures { StandsAt modules.now region.now uuid.now position result }
+{
+    place_of(modules, regions, region, uuid, position)
+}
+
+/// The only label with a uuid in the module at a position, also where other modules of the region have none.
+pub(crate) fn place_of(
+    modules: &[LoadedModule],
+    regions: &[RegionLabels],
+    region: &Region,
+    uuid: &[u8; 16],
+    position: usize,
+) -> LabelPlace
+    requires together { IsTogether modules.now regions.now }
+    requires region_in { Contains (map region_in regions.now) region.now }
+    requires position { position < length region.now.members }
+    requires one { HasOneAt (labels_in modules.now) region.now uuid.now position }
     ensures { StandsAt modules.now region.now uuid.now position result }
 {
     let kept = kept_of(regions, region);

@@ -1,25 +1,19 @@
 //! One label for each member of a region, by one flip each.
 
-ghost use Rattle.std.specs.Prelude.{◌≡◌, ◌+◌, ◌<◌, ◌^◌, IfErr, IsTrue, List, OnErr, OnOk, length, map};
+ghost use Rattle.std.specs.Prelude.{◌≡◌, ◌+◌, ◌<◌, ◌^◌, IsTrue, List, OnErr, OnOk, length};
 ghost use Rattle.std.specs.Prelude.{slice_index_or};
-ghost use Rattle.std.specs.List.{All};
-ghost use Rattle.std.specs.Result.{is_err};
-ghost use Rattle.rig_trait.specs.Frames.{FailsAt, IsTold, LeavesOnly, WritesTo};
 ghost use Rattle.label_codec.specs.ModuleLabels.{is_ready};
 ghost use Rattle.label_table.specs.Belonging.{member_at};
 ghost use Rattle.label_table.specs.Tables.{state};
 ghost use Rattle.region_labels.specs.declared.modules.LoadedModule.{LoadedModule};
 ghost use Rattle.region_labels.specs.declared.region.RegionLabels.{RegionLabels};
 ghost use Rattle.region_labels.specs.Fates.{platform_of};
-ghost use Rattle.region_labels.specs.Modules.{dimm_of, labels_in};
+ghost use Rattle.region_labels.specs.Modules.{labels_in};
 ghost use Rattle.region_labels.specs.Regions.{handles};
-ghost use Rattle.region_labels.specs.Followed.{handle_at};
-ghost use Rattle.module_flips.specs.Flips.{IsSizedIn};
-ghost use Rattle.module_flips.specs.Stored.{StandsIn};
-ghost use Rattle.module_flips.specs.Stops.{HasAreaCause, LeftIn, WritesAmong};
 ghost use Rattle.module_flips.specs.Together.{StaysTogether};
 ghost use Rattle.namespace_passes.specs.Staged.{IsBeforeOrWith, new_space, staged_label};
-ghost use Rattle.namespace_passes.specs.Staging.{CanStage, CanStageAt, IsStaged, StagedBelow};
+ghost use Rattle.namespace_passes.specs.Staging.{AreStaged, CanStage, CanStageAt, IsStaged, StagedBelow};
+ghost use Rattle.module_flips.specs.Passes.{AreSized, IsPass, kept_of};
 
 use label_codec::{Label, UPDATING};
 use module_flips::{AreaFailed, put_at};
@@ -42,19 +36,15 @@ pub fn stage_labels<R: Rig>(
     space: &Namespace,
 ) -> Result<(), AreaFailed>
     requires stage { CanStage modules.old regions.old region.now space.now }
-    requires sized { IsTold R.Shown rig.old → All (IsSizedIn (R.areas rig.old)) modules.old }
+    requires sized { AreSized R.Shown rig.old modules.old }
     ensures staged { OnOk result (IsStaged modules.old regions.old region.now (new_space space.now) modules.new) }
+    ensures labels { OnOk result (AreStaged region.now space.now (labels_in modules.new)) }
     ensures failed { OnErr result (state (platform_of regions.old) (labels_in modules.new)
         ≡ state (platform_of regions.old) (labels_in modules.old)) }
     ensures together { StaysTogether modules.old regions.old modules.new regions.new }
-    ensures stands { IsTold R.Shown rig.old → All (StandsIn (R.areas rig.old)) modules.old
-        → OnOk result (All (StandsIn (R.areas rig.new)) modules.new) }
-    ensures any_moment { IsTold R.Shown rig.old → All (StandsIn (R.areas rig.old)) modules.old
-        → LeavesOnly R.Shown rig.old rig.new (LeftIn (map dimm_of modules.old) (R.said rig.old)
-        (IsBeforeOrWith (platform_of regions.old) region.now (new_space space.now) (labels_in modules.old))) }
-    ensures writes_among { WritesAmong (handles region.now) R.Shown rig.old rig.new }
-    ensures cause { HasAreaCause (handles region.now) R.Shown rig.old rig.new result }
-    ensures reads { R.reads rig.new ≡ R.reads rig.old }
+    ensures pass { IsPass (handles region.now)
+        (IsBeforeOrWith (platform_of regions.old) region.now (new_space space.now) (labels_in modules.old))
+        R.Shown (kept_of modules.old regions.old) rig.old (kept_of modules.new regions.new) rig.new result }
 {
     for position in 0..region.members.len() {
         match stage_at(rig, modules, regions, region, space, position) {
@@ -77,25 +67,19 @@ fn stage_at<R: Rig>(
 ) -> Result<(), AreaFailed>
     requires position { position < length region.now.members }
     requires stage { CanStageAt modules.old regions.old region.now space.now position }
-    requires sized { IsTold R.Shown rig.old → All (IsSizedIn (R.areas rig.old)) modules.old }
+    requires sized { AreSized R.Shown rig.old modules.old }
     ensures staged { (before : List LoadedModule) (regions_before : List RegionLabels)
         → CanStage before regions_before region.now space.now
         → StagedBelow before regions_before region.now space.now position modules.old regions.old
         → OnOk result (StagedBelow before regions_before region.now space.now (position + 1) modules.new regions.new) }
     ensures kept { OnErr result (modules.new ≡ modules.old) }
     ensures kept_regions { OnErr result (regions.new ≡ regions.old) }
-    ensures stands { IsTold R.Shown rig.old → All (StandsIn (R.areas rig.old)) modules.old
-        → OnOk result (All (StandsIn (R.areas rig.new)) modules.new) }
-    ensures any_moment { (before : List LoadedModule) (regions_before : List RegionLabels)
+    ensures pass { (before : List LoadedModule) (regions_before : List RegionLabels)
         → CanStage before regions_before region.now space.now
         → StagedBelow before regions_before region.now space.now position modules.old regions.old
-        → IsTold R.Shown rig.old → All (StandsIn (R.areas rig.old)) modules.old
-        → LeavesOnly R.Shown rig.old rig.new (LeftIn (map dimm_of modules.old) (R.said rig.old)
-        (IsBeforeOrWith (platform_of regions_before) region.now (new_space space.now) (labels_in before))) }
-    ensures writes_only { WritesTo (handle_at region.now position) R.Shown rig.old rig.new }
-    ensures cause { FailsAt (handle_at region.now position) R.Shown rig.old rig.new (is_err result) }
-    ensures names { IfErr result (λ failed. failed.dimm ≡ handle_at region.now position) }
-    ensures reads { R.reads rig.new ≡ R.reads rig.old }
+        → IsPass (handles region.now)
+        (IsBeforeOrWith (platform_of regions_before) region.now (new_space space.now) (labels_in before))
+        R.Shown (kept_of modules.old regions.old) rig.old (kept_of modules.new regions.new) rig.new result }
 {
     let seat = seat_of(modules, region.members.as_slice()[position].handle);
     let label = staged_label(region, space, position);

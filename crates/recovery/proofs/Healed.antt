@@ -14,7 +14,7 @@ use Rattle.label_table.specs.Tables.{State, is_member}
 use Rattle.label_table.proofs.ListTests.{eq_true, list_any-found}
 use Rattle.region_labels.specs.Modules.{dimm_of}
 use Rattle.module_flips.specs.Together.{free_slots}
-use Rattle.namespace_passes.proofs.Passing.{at-place, each-length}
+use Rattle.module_flips.proofs.Passes.{at-place, each-length}
 use Rattle.label_sets.specs.Healing.{CanHealIn, IsHealedIn}
 use Rattle.label_sets.specs.Sets.{StoredSets, labels_in, platform_in, state_in}
 use Rattle.module_flips.proofs.FreedModules.{get_or-any}

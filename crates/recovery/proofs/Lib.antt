@@ -1,6 +1,5 @@
 pub mod Counting
 pub mod Pending
 pub mod Full
-pub mod Joined
 pub mod Swept
 pub mod Healed

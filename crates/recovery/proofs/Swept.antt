@@ -1,38 +1,27 @@
 -- The modules of a region are swept, one after the other.
-use Rattle.std.proofs.Common.{◌≡◌, ◌≢◌, ℕ, ◌+◌, ◌<◌, true, false, List, length, get_or, map, Result, Ok, Err, refl, sym, ap, subst, ◌∙◌, inl, inr, arith}
-use Rattle.std.specs.Prelude.{◌==◌, IfErr}
+use Rattle.std.proofs.Common.{◌≡◌, ◌≢◌, ℕ, ◌+◌, ◌<◌, true, List, length, get_or, map, refl, sym, ap, subst, ◌∙◌, inl, inr, arith}
+use Rattle.std.specs.Prelude.{◌==◌}
 use Rattle.std.specs.List.{All, list_all}
-use Rattle.std.specs.Result.{is_err}
 use Rattle.std.proofs.lemmas.Bool.{cases_eq}
 use Rattle.std.proofs.lemmas.List.Folds.{list_any_at}
-use Rattle.rig_trait.specs.declared.shown.Shown.{Ghosts}
-use Rattle.rig_trait.specs.Frames.{FailsAt, IsTold, LeavesOnly, WritesTo}
-use Rattle.rig_trait.proofs.Moments.{weakened}
 use Rattle.label_codec.specs.ModuleLabels.{Labels, is_ready}
 use Rattle.label_area.specs.Flips.{is_among}
 use Rattle.region_map.specs.declared.platform.Member.{Member}
 use Rattle.region_map.specs.declared.platform.Region.{Region}
 use Rattle.label_table.specs.Belonging.{member_at, no_member}
-use Rattle.label_table.specs.Tables.{State, is_member, state}
+use Rattle.label_table.specs.Tables.{State, is_member}
 use Rattle.label_table.specs.Wholes.{all_ready}
 use Rattle.label_table.proofs.ListTests.{Contains-get_or, eq_same, eq_true, list_all-at, list_any-at, list_any-found}
-use Rattle.region_labels.specs.Modules.{dimm_of, size_in}
+use Rattle.region_labels.specs.Modules.{dimm_of}
 use Rattle.region_labels.specs.Regions.{handles}
 use Rattle.region_labels.proofs.Seated.{handle-at, length-handles}
-use Rattle.module_flips.specs.declared.flips.AreaFailed.{AreaFailed}
-use Rattle.module_flips.specs.Stops.{HasAreaCause, LeftIn, WritesAmong}
-use Rattle.module_flips.specs.Stored.{StandsIn}
 use Rattle.module_flips.specs.Together.{free_slots}
-use Rattle.namespace_passes.proofs.Passing.{at-place, each-length}
-use Rattle.label_sets.specs.Sets.{StoredSets, labels_in, platform_in, state_in}
+use Rattle.module_flips.proofs.Passes.{at-place, each-length}
+use Rattle.label_sets.specs.Sets.{StoredSets, labels_in, state_in}
 use Rattle.label_sets.specs.Sweeps.{IsFreeAsSpare}
 use Rattle.module_flips.specs.Sweeps.{ChangesOnly}
 use Rattle.module_flips.proofs.FreedModules.{get_or-any}
 use Rattle.recovery.specs.Recovery.{HasSpareFree}
-use Rattle.recovery.specs.Steps.{HasTableOf, IsStep}
-
-apart : {A : Type 0} → true ≡ false → A
-apart e = absurd cc
 
 -- where all areas are Ready, that of the module at a position is
 pub member-ready : (L : Labels) (r : Region) (k : ℕ) → all_ready r L ≡ true → k < length r.members → is_ready (L (member_at r k).handle).kind ≡ true
@@ -48,32 +37,6 @@ member-known r k lt =
     let x = (member_at r k).handle in
     let below : k < length (handles r) = subst (λ n. k < n) (sym (length-handles r)) lt in
     list_any_at (λ h. x == h) (handles r) k 0 below (eq_same x (get_or (handles r) k 0) (sym (handle-at r k lt)))
-
-module _ {R : Type 0} {m : Ghosts R} {old new : R} (hs : List ℕ) (dimm : ℕ) (known : is_among hs dimm ≡ true) where
-  writes-among : WritesTo dimm m old new → WritesAmong hs m old new
-  writes-among turn = record {
-    others = λ told q other. turn.others told q (λ same. apart (sym known ∙ ap (is_among hs) (sym same) ∙ other));
-    says = record { said = turn.said; say_faults = turn.say_faults; goes_on = turn.goes_on };
-  }
-
-  pub swept-step : (s now : StoredSets) → state_in now ≡ state_in s → now.regions ≡ s.regions → now.room ≡ s.room → map dimm_of now.modules ≡ map dimm_of s.modules → map size_in now.modules ≡ map size_in s.modules
-      → (IsTold m old → All (StandsIn (m.areas old)) s.modules → LeavesOnly m old new (LeftIn (map dimm_of s.modules) (m.said old) (λ labels. state (platform_in s) labels ≡ state_in s)))
-      → WritesTo dimm m old new → m.reads new ≡ m.reads old → IsStep hs m s old now new
-  swept-step s now same regions room dimms sizes any_moment turn reads = record {
-    same_table = ap (λ (t : State). t.table) same;
-    regions = regions;
-    room = room;
-    dimms = dimms;
-    sizes = sizes;
-    any_moment = λ told all. weakened (LeftIn (map dimm_of s.modules) (m.said old) (λ labels. state (platform_in s) labels ≡ state_in s)) (LeftIn (map dimm_of s.modules) (m.said old) (HasTableOf s))
-        (λ c is. record { said_is = is.said_is; labels = λ fair. ap (λ (t : State). t.table) (is.labels fair) }) (any_moment told all);
-    writes = writes-among turn;
-    reads = reads;
-  }
-
-  pub swept-cause : (result : Result Unit AreaFailed) → FailsAt dimm m old new (is_err result) → IfErr result (λ failed. failed.dimm ≡ dimm) → HasAreaCause hs m old new result
-  swept-cause (Ok value) fails names = record { faults = fails.faults; failed_dimm = fails.failed_dimm }
-  swept-cause (Err failed) fails names = record { fails = subst (λ d. FailsAt d m old new true) (sym names) fails; known = ap (is_among hs) names ∙ known }
 
 -- A module stays swept while another one is, or it is this one.
 pub free-still : (s now : StoredSets) (dimm other : ℕ) → state_in now ≡ state_in s → ChangesOnly dimm s.modules now.modules → map dimm_of now.modules ≡ map dimm_of s.modules → IsFreeAsSpare now dimm → IsFreeAsSpare s other → IsFreeAsSpare now other

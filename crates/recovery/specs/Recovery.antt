@@ -2,8 +2,6 @@
 use Rattle.std.specs.Prelude.{◌≡◌, ◌≢◌, ℕ, ◌==◌, nat_lt, false, true, List, [], ◌∷◌, Option, None, Some, Result}
 use Rattle.std.specs.Prelude.{◌<◌, Err, Ok, count_by, length, if◌then◌else◌}
 use Rattle.std.specs.List.{All}
-use Rattle.rig_trait.specs.declared.shown.Shown.{Ghosts}
-use Rattle.rig_trait.specs.Frames.{FailsAt}
 use Rattle.label_codec.specs.ModuleLabels.{Labels}
 use Rattle.region_map.specs.declared.platform.Member.{Member}
 use Rattle.region_map.specs.declared.platform.Region.{Region}
@@ -12,7 +10,7 @@ use Rattle.label_table.specs.Namespaces.{namespaces}
 use Rattle.label_table.specs.Spaces.{Space, is_pending}
 use Rattle.label_table.specs.Tables.{is_member}
 use Rattle.region_labels.specs.declared.modules.LoadedModule.{LoadedModule}
-use Rattle.module_flips.specs.Stops.{FailedAmong}
+use Rattle.module_flips.specs.declared.flips.AreaFailed.{AreaFailed}
 use Rattle.module_flips.specs.Together.{free_slots}
 use Rattle.label_sets.specs.Sets.{StoredSets, labels_in, state_in}
 use Rattle.label_sets.specs.Sweeps.{IsSweptAt}
@@ -67,11 +65,11 @@ pub record IsRecovered (before after : StoredSets) (region : Region) : Type 0 wh
       → (state_in after).pending index uuid ≡ (state_in before).pending index uuid
   pub free : All (HasSpareFree after region) after.modules
 
-abbrev pub HasCauseOf : {R : Type 0} → List ℕ → Ghosts R → R → R → RecoverFault → Type 0
-HasCauseOf handles m old new (Unhealed dimm) = FailsAt 0 m old new false
-HasCauseOf handles m old new (Failed dimm) = FailedAmong handles m old new (record { dimm = dimm })
+abbrev pub failed_by : RecoverFault → Result Unit AreaFailed
+failed_by (Unhealed dimm) = Ok tt
+failed_by (Failed dimm) = Err (record { dimm = dimm })
 
--- No call of the rig failed, or the last one did, and `Failed` names its module, one of these.
-abbrev pub HasCause : {R T : Type 0} → List ℕ → Ghosts R → R → R → Result T RecoverFault → Type 0
-HasCause handles m old new (Ok value) = FailsAt 0 m old new false
-HasCause handles m old new (Err fault) = HasCauseOf handles m old new fault
+-- the area that failed, where one did
+abbrev pub area_failed : {T : Type 0} → Result T RecoverFault → Result Unit AreaFailed
+area_failed (Ok value) = Ok tt
+area_failed (Err fault) = failed_by fault

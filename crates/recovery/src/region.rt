@@ -1,20 +1,14 @@
 //! A region is recovered, or a module is found that has no slot for it.
 
-ghost use Rattle.std.specs.Prelude.{◌≡◌, IfErr, IsSome, OnOk, Some, map};
-ghost use Rattle.std.specs.List.{All};
-ghost use Rattle.rig_trait.specs.Frames.{IsTold, LeavesOnly};
+ghost use Rattle.std.specs.Prelude.{◌≡◌, IfErr, IsSome, OnOk, Some};
 ghost use Rattle.region_map.specs.Platforms.{IsSound, region_at};
 ghost use Rattle.label_table.specs.Statuses.{RegionReady, status};
 ghost use Rattle.label_table.specs.Tables.{table};
-ghost use Rattle.region_labels.specs.Modules.{dimm_of, size_in};
 ghost use Rattle.region_labels.specs.Regions.{handles};
-ghost use Rattle.module_flips.specs.Flips.{IsSizedIn};
-ghost use Rattle.module_flips.specs.Stops.{HasAreaCause, LeftIn, WritesAmong};
-ghost use Rattle.module_flips.specs.Stored.{StandsIn};
-ghost use Rattle.label_sets.specs.Sets.{labels_in, platform_in, state_in};
+ghost use Rattle.label_sets.specs.Sets.{IsTableOf, kept_in, labels_in, platform_in};
 ghost use Rattle.label_sets.specs.Staging.{OfRegion};
-ghost use Rattle.recovery.specs.Recovery.{AreSwept, HasCause, IsRecovered, WhereUnhealed, unhealed_at, unhealed_by};
-ghost use Rattle.recovery.specs.Steps.{IsStep};
+ghost use Rattle.recovery.specs.Recovery.{AreSwept, IsRecovered, WhereUnhealed, unhealed_at, unhealed_by, area_failed};
+ghost use Rattle.module_flips.specs.Passes.{AreSized, IsPass};
 
 use crate::heals::heal_pending;
 use crate::sweeps::sweep_members;
@@ -47,25 +41,15 @@ pub fn recover<R: Rig>(
     requires platform { platform.now.regions ≡ sets.old.regions }
     requires found { IsSome (region_at (platform_in sets.old) region) }
     requires ready { OfRegion sets.old region (λ found. status (labels_in sets.old) found ≡ RegionReady) }
-    requires sized { IsTold R.Shown rig.old → All (IsSizedIn (R.areas rig.old)) sets.old.modules }
+    requires sized { AreSized R.Shown rig.old sets.old.modules }
     ensures recovered { OfRegion sets.old region (λ found. OnOk result (IsRecovered sets.old sets.new found)) }
     ensures swept { OfRegion sets.old region (λ found. OnOk result (AreSwept sets.new found)) }
     ensures unhealed { OfRegion sets.old region (λ found. unhealed_by result ≡ unhealed_at sets.old found) }
     ensures unwritten { IfErr result (WhereUnhealed (rig.new ≡ rig.old)) }
     ensures kept { IfErr result (WhereUnhealed (sets.new ≡ sets.old)) }
-    ensures table { (state_in sets.new).table ≡ (state_in sets.old).table }
-    ensures regions { sets.new.regions ≡ sets.old.regions }
     ensures room { sets.new.room ≡ sets.old.room }
-    ensures dimms { map dimm_of sets.new.modules ≡ map dimm_of sets.old.modules }
-    ensures sizes { map size_in sets.new.modules ≡ map size_in sets.old.modules }
-    ensures stands { IsTold R.Shown rig.old → All (StandsIn (R.areas rig.old)) sets.old.modules
-        → OnOk result (All (StandsIn (R.areas rig.new)) sets.new.modules) }
-    ensures any_moment { IsTold R.Shown rig.old → All (StandsIn (R.areas rig.old)) sets.old.modules
-        → LeavesOnly R.Shown rig.old rig.new (LeftIn (map dimm_of sets.old.modules) (R.said rig.old)
-        (λ labels. table (platform_in sets.old) labels ≡ (state_in sets.old).table)) }
-    ensures writes_among { OfRegion sets.old region (λ found. WritesAmong (handles found) R.Shown rig.old rig.new) }
-    ensures cause { OfRegion sets.old region (λ found. HasCause (handles found) R.Shown rig.old rig.new result) }
-    ensures reads { R.reads rig.new ≡ R.reads rig.old }
+    ensures pass { OfRegion sets.old region (λ found. IsPass (handles found) (IsTableOf sets.old)
+        R.Shown (kept_in sets.old) rig.old (kept_in sets.new) rig.new (area_failed result)) }
 {
     if let Some(dimm) = full_module(sets, region) {
         return Err(RecoverFault::Unhealed { dimm });
@@ -110,12 +94,11 @@ fn recover_members<R: Rig>(
     requires found { region_at (platform_in sets.old) found.now.index ≡ Some found.now }
     requires ready { status (labels_in sets.old) found.now ≡ RegionReady }
     requires spare { unhealed_at sets.old found.now ≡ None }
-    requires sized { IsTold R.Shown rig.old → All (IsSizedIn (R.areas rig.old)) sets.old.modules }
+    requires sized { AreSized R.Shown rig.old sets.old.modules }
     ensures recovered { OnOk result (IsRecovered sets.old sets.new found.now) }
-    ensures step { IsStep (handles found.now) R.Shown sets.old rig.old sets.new rig.new }
-    ensures stands { IsTold R.Shown rig.old → All (StandsIn (R.areas rig.old)) sets.old.modules
-        → OnOk result (All (StandsIn (R.areas rig.new)) sets.new.modules) }
-    ensures cause { HasAreaCause (handles found.now) R.Shown rig.old rig.new result }
+    ensures room { sets.new.room ≡ sets.old.room }
+    ensures pass { IsPass (handles found.now) (IsTableOf sets.old)
+        R.Shown (kept_in sets.old) rig.old (kept_in sets.new) rig.new result }
 {
     match sweep_members(rig, platform, sets, found) {
         Ok(()) => heal_pending(rig, platform, sets, found),

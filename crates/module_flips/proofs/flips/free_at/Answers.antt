@@ -1,10 +1,14 @@
-use Rattle.std.proofs.Common.{sym, subst, get_or, length}
+use Rattle.std.proofs.Common.{inl, inr, Ok, Err, refl, sym, subst, length}
 use Rattle.std.specs.List.{AllZip}
-use Rattle.rig_trait.specs.Areas.{OthersKept}
+use Rattle.region_labels.specs.Changes.{dimm_at}
+use Rattle.region_labels.specs.Modules.{labels_in}
 use Rattle.region_labels.specs.Rooms.{KeepsRegion, room_after_free}
 use Rattle.region_labels.proofs.ChangedModules.{dimm_at-same}
-use Rattle.module_flips.specs.Stored.{StandsIn}
-use Rattle.module_flips.proofs.Freed.{changed, either-left, labels-freed, seat-dimm, stands-after, stood}
+use Rattle.module_flips.specs.Flips.{without_slots_at}
+use Rattle.module_flips.specs.Stops.{IsOneOf}
+use Rattle.module_flips.proofs.Freed.{changed, either-left, labels-freed, stood}
+use Rattle.module_flips.proofs.OnePass.{flip-pass, kept-labels}
+use Rattle.module_flips.proofs.Together.{same-regions}
 use Rattle.module_flips.proofs.flips.free_at.Goals as goal
 
 pub follow_free-requires : goal.follow_free-requires
@@ -26,22 +30,28 @@ returns-in-Ok-clause-regions g c =
     subst (λ d. AllZip (KeepsRegion (room_after_free d (length c.args.lost.now))) c.args.regions.now c.follow_free.new.regions)
     (dimm_at-same ms _ c.args.seat (changed ms c.args.seat c.requires.within c.requires.once here c.free_in.new.loaded c.index-modules-seat.is c.free_in.ensures.dimm)) c.follow_free.ensures.kept
 
-pub returns-in-Ok-clause-stands : goal.returns-in-Ok-clause-stands
-returns-in-Ok-clause-stands g c = λ told all.
+-- the flip as a pass
+pub returns-in-Ok-clause-pass : goal.returns-in-Ok-clause-pass
+returns-in-Ok-clause-pass g c =
     let ms = c.args.modules.now in
     let here = c.index-modules-seat.result in
-    let old = g.R.Shown.areas c.args.rig.now in
-    let now = g.R.Shown.areas c.free_in.new.rig in
-    let there : StandsIn old (get_or ms c.args.seat here) = all c.args.seat here c.requires.within in
-    let others : OthersKept (get_or ms c.args.seat here).dimm old now = c.free_in.ensures.writes_only.others told in
-    stands-after ms c.args.seat c.requires.within c.requires.once here c.free_in.new.loaded c.index-modules-seat.is c.free_in.ensures.dimm old now
-    (subst (λ d. OthersKept d old now) (sym (seat-dimm ms c.args.seat c.requires.within c.requires.once here c.free_in.new.loaded c.index-modules-seat.is c.free_in.ensures.dimm)) others) all
-    (c.in-Ok.ensures.stands told there)
+    let q = c.requires in
+    let did = c.free_in.ensures in
+    let freed = c.in-Ok.ensures.freed in
+    flip-pass ms c.args.seat q.within q.once here c.free_in.new.loaded c.index-modules-seat.is did.dimm g.R.Shown c.args.rig.now c.free_in.new.rig c.args.regions.now c.follow_free.new.regions
+    (IsOneOf (labels_in ms) (without_slots_at (dimm_at ms c.args.seat) c.args.slots.now (labels_in ms))) (Ok tt) did.size (same-regions _ c.args.regions.now c.follow_free.new.regions c.follow_free.ensures.kept)
+    (inr (labels-freed ms c.args.seat q.within q.once here c.free_in.new.loaded c.index-modules-seat.is did.dimm c.args.slots.now c.args.lost.now (q.free here) freed))
+    did.writes_only c.in-Ok.ensures.cause tt did.reads c.in-Ok.ensures.stands
+    (λ told all. either-left ms c.args.seat q.within q.once here c.free_in.new.loaded c.index-modules-seat.is did.dimm c.args.slots.now c.args.lost.now (q.free here) g.R.Shown c.args.rig.now c.free_in.new.rig all (did.any_moment told))
 
-pub returns-in-Ok-clause-any_moment : goal.returns-in-Ok-clause-any_moment
-returns-in-Ok-clause-any_moment g c = λ told all. either-left c.args.modules.now c.args.seat c.requires.within c.requires.once c.index-modules-seat.result c.free_in.new.loaded c.index-modules-seat.is c.free_in.ensures.dimm c.args.slots.now c.args.lost.now
-    (c.requires.free c.index-modules-seat.result) g.R.Shown c.args.rig.now c.free_in.new.rig all (c.in-Ok.ensures.any_moment told)
-
-pub returns-in-Err-clause-any_moment : goal.returns-in-Err-clause-any_moment
-returns-in-Err-clause-any_moment g c = λ told all. either-left c.args.modules.now c.args.seat c.requires.within c.requires.once c.index-modules-seat.result c.free_in.new.loaded c.index-modules-seat.is c.free_in.ensures.dimm c.args.slots.now c.args.lost.now
-    (c.requires.free c.index-modules-seat.result) g.R.Shown c.args.rig.now c.free_in.new.rig all (c.in-Err.ensures.any_moment told)
+pub returns-in-Err-clause-pass : goal.returns-in-Err-clause-pass
+returns-in-Err-clause-pass g c =
+    let ms = c.args.modules.now in
+    let here = c.index-modules-seat.result in
+    let q = c.requires in
+    let did = c.free_in.ensures in
+    flip-pass ms c.args.seat q.within q.once here c.free_in.new.loaded c.index-modules-seat.is did.dimm g.R.Shown c.args.rig.now c.free_in.new.rig c.args.regions.now c.args.regions.now
+    (IsOneOf (labels_in ms) (without_slots_at (dimm_at ms c.args.seat) c.args.slots.now (labels_in ms))) (Err c.in-Err.failed) did.size refl
+    (inl (kept-labels ms c.args.seat q.within q.once here c.free_in.new.loaded c.index-modules-seat.is did.dimm c.in-Err.ensures.kept))
+    did.writes_only c.in-Err.ensures.cause c.in-Err.ensures.names did.reads (λ told stored. tt)
+    (λ told all. either-left ms c.args.seat q.within q.once here c.free_in.new.loaded c.index-modules-seat.is did.dimm c.args.slots.now c.args.lost.now (q.free here) g.R.Shown c.args.rig.now c.free_in.new.rig all (did.any_moment told))

@@ -1,19 +1,22 @@
-use Rattle.std.proofs.Common.{◌≡◌, ℕ, ◌<◌, ◌+◌, List, length, Option, None, get_or, map, set, sym, ap, subst, ◌∙◌}
+use Rattle.std.proofs.Common.{◌≡◌, ℕ, ◌<◌, ◌+◌, List, length, Option, None, inl, inr, [], ◌∷◌, Result, Ok, Err, get_or, set, refl, sym, ap, subst, ◌∙◌}
 use Rattle.std.specs.List.{All, AllZip}
-use Rattle.rig_trait.specs.Areas.{OthersKept}
-use Rattle.rig_trait.specs.Frames.{LeavesOnly}
+use Rattle.rig_trait.specs.declared.shown.Shown.{Ghosts}
+use Rattle.label_codec.specs.declared.label.Label.{Label}
 use Rattle.label_area.specs.Flips.{replaced}
 use Rattle.region_labels.specs.declared.modules.LoadedModule.{LoadedModule}
 use Rattle.region_labels.specs.declared.region.RegionLabels.{RegionLabels}
-use Rattle.region_labels.specs.Modules.{dimm_of, labels_in, module_in}
+use Rattle.region_labels.specs.Modules.{labels_in, module_in}
 use Rattle.region_labels.specs.Changes.{dimm_at}
 use Rattle.region_labels.specs.Flips.{StoodBeforePut}
 use Rattle.region_labels.specs.Rooms.{HasRoomFor, KeepsRegion, room_after_put}
 use Rattle.region_labels.specs.SlotLabels.{replaced_label}
 use Rattle.region_labels.proofs.ChangedModules.{dimm_at-same}
 use Rattle.module_flips.specs.Flips.{first_slot_in, with_put_at}
-use Rattle.module_flips.specs.Stops.{IsOneOf, LeftIn}
-use Rattle.module_flips.proofs.Freed.{at-seat, changed, new-at, seat-dimm, stands-after}
+use Rattle.module_flips.specs.declared.flips.AreaFailed.{AreaFailed}
+use Rattle.module_flips.specs.Passes.{IsPass, Kept}
+use Rattle.module_flips.specs.Stops.{IsOneOf}
+use Rattle.module_flips.proofs.Freed.{at-seat, changed, new-at}
+use Rattle.module_flips.proofs.OnePass.{flip-pass, kept-labels}
 use Rattle.module_flips.specs.Flips.{CanPut, HasFreeIn, IsReplaced}
 use Rattle.module_flips.specs.Together.{IsTogether, free_slots}
 use Rattle.module_flips.proofs.Freed.{used-within}
@@ -55,37 +58,41 @@ returns-in-Ok-clause-labels g c = λ d.
     ∙ ap (λ (m : LoadedModule). with_put_at (dimm_at ms c.args.seat) (first_slot_in m) c.args.label.now c.args.replaces (labels_in ms))
     (sym (at-seat ms c.args.seat q.within q.together.once x c.put_in.new.loaded c.index-modules-seat-2.is c.put_in.ensures.dimm d))
 
-pub returns-in-Ok-clause-stands : goal.returns-in-Ok-clause-stands
-returns-in-Ok-clause-stands g c = λ told all.
-    let ms = c.args.modules.now in
-    let x = c.index-modules-seat-2.result in
-    let q = c.requires in
-    let old = g.R.Shown.areas c.args.rig.now in
-    let now = g.R.Shown.areas c.put_in.new.rig in
-    let others : OthersKept (get_or ms c.args.seat x).dimm old now = c.put_in.ensures.writes_only.others told in
-    stands-after ms c.args.seat q.within q.together.once x c.put_in.new.loaded c.index-modules-seat-2.is c.put_in.ensures.dimm old now
-    (subst (λ d. OthersKept d old now) (sym (seat-dimm ms c.args.seat q.within q.together.once x c.put_in.new.loaded c.index-modules-seat-2.is c.put_in.ensures.dimm)) others) all
-    (c.in-Ok.ensures.stands told (all c.args.seat x q.within))
+-- the labels afterwards, told of the module at the seat in other words
+told-of : (ms : List LoadedModule) (seat : ℕ) (here there : LoadedModule) (label : Label) (replaces : Option ℕ) {R : Type 0} {m : Ghosts R} {old new : R} {before after : Kept} {result : Result Unit AreaFailed} → there ≡ here
+    → IsPass (dimm_at ms seat ∷ []) (IsOneOf (labels_in ms) (with_put_at (dimm_at ms seat) (first_slot_in here) label replaces (labels_in ms))) m before old after new result
+    → IsPass (dimm_at ms seat ∷ []) (IsOneOf (labels_in ms) (with_put_at (dimm_at ms seat) (first_slot_in there) label replaces (labels_in ms))) m before old after new result
+told-of ms seat here there label replaces {R} {m} {old} {new} {before} {after} {result} same pass = subst (λ (x : LoadedModule). IsPass (dimm_at ms seat ∷ []) (IsOneOf (labels_in ms) (with_put_at (dimm_at ms seat) (first_slot_in x) label replaces (labels_in ms))) m before old after new result) (sym same) pass
 
-pub returns-in-Ok-clause-any_moment : goal.returns-in-Ok-clause-any_moment
-returns-in-Ok-clause-any_moment g c = λ d told all.
+pub returns-in-Ok-clause-pass : goal.returns-in-Ok-clause-pass
+returns-in-Ok-clause-pass g c = λ d.
     let ms = c.args.modules.now in
     let x = c.index-modules-seat-2.result in
     let q = c.requires in
-    subst (λ (m : LoadedModule). LeavesOnly g.R.Shown c.args.rig.now c.put_in.new.rig (LeftIn (map dimm_of ms) (g.R.Shown.said c.args.rig.now) (IsOneOf (labels_in ms) (with_put_at (dimm_at ms c.args.seat) (first_slot_in m) c.args.label.now c.args.replaces (labels_in ms)))))
-    (sym (at-seat ms c.args.seat q.within q.together.once x c.put_in.new.loaded c.index-modules-seat-2.is c.put_in.ensures.dimm d))
-    (either-put ms c.args.seat q.within q.together.once x c.put_in.new.loaded c.index-modules-seat-2.is c.put_in.ensures.dimm c.args.label.now c.args.replaces (can x c.args.replaces c.requires.together c.requires.within (q.free x) (q.replaces x)) c.put_in.ensures.within c.put_in.ensures.was_free
-    g.R.Shown c.args.rig.now c.put_in.new.rig all (c.in-Ok.ensures.any_moment told))
+    let did = c.put_in.ensures in
+    let here = get_or ms c.args.seat x in
+    told-of ms c.args.seat here (get_or ms c.args.seat d) c.args.label.now c.args.replaces (at-seat ms c.args.seat q.within q.together.once x c.put_in.new.loaded c.index-modules-seat-2.is did.dimm d)
+    (flip-pass ms c.args.seat q.within q.together.once x c.put_in.new.loaded c.index-modules-seat-2.is did.dimm g.R.Shown c.args.rig.now c.put_in.new.rig c.args.regions.now c.follow_put.new.regions
+    (IsOneOf (labels_in ms) (with_put_at (dimm_at ms c.args.seat) (first_slot_in here) c.args.label.now c.args.replaces (labels_in ms))) (Ok tt) did.size (same-regions _ c.args.regions.now c.follow_put.new.regions c.follow_put.ensures.kept)
+    (inr (labels-put ms c.args.seat q.within q.together.once x c.put_in.new.loaded c.index-modules-seat-2.is did.dimm c.args.label.now c.args.replaces (can x c.args.replaces q.together q.within (q.free x) (q.replaces x)) did.within did.was_free c.in-Ok.ensures.put))
+    did.writes_only c.in-Ok.ensures.cause tt did.reads c.in-Ok.ensures.stands
+    (λ told all. either-put ms c.args.seat q.within q.together.once x c.put_in.new.loaded c.index-modules-seat-2.is did.dimm c.args.label.now c.args.replaces (can x c.args.replaces q.together q.within (q.free x) (q.replaces x)) did.within did.was_free
+    g.R.Shown c.args.rig.now c.put_in.new.rig all (did.any_moment told)))
 
-pub returns-in-Err-clause-any_moment : goal.returns-in-Err-clause-any_moment
-returns-in-Err-clause-any_moment g c = λ d told all.
+pub returns-in-Err-clause-pass : goal.returns-in-Err-clause-pass
+returns-in-Err-clause-pass g c = λ d.
     let ms = c.args.modules.now in
     let x = c.index-modules-seat-2.result in
     let q = c.requires in
-    subst (λ (m : LoadedModule). LeavesOnly g.R.Shown c.args.rig.now c.put_in.new.rig (LeftIn (map dimm_of ms) (g.R.Shown.said c.args.rig.now) (IsOneOf (labels_in ms) (with_put_at (dimm_at ms c.args.seat) (first_slot_in m) c.args.label.now c.args.replaces (labels_in ms)))))
-    (sym (at-seat ms c.args.seat q.within q.together.once x c.put_in.new.loaded c.index-modules-seat-2.is c.put_in.ensures.dimm d))
-    (either-put ms c.args.seat q.within q.together.once x c.put_in.new.loaded c.index-modules-seat-2.is c.put_in.ensures.dimm c.args.label.now c.args.replaces (can x c.args.replaces c.requires.together c.requires.within (q.free x) (q.replaces x)) c.put_in.ensures.within c.put_in.ensures.was_free
-    g.R.Shown c.args.rig.now c.put_in.new.rig all (c.in-Err.ensures.any_moment told))
+    let did = c.put_in.ensures in
+    let here = get_or ms c.args.seat x in
+    told-of ms c.args.seat here (get_or ms c.args.seat d) c.args.label.now c.args.replaces (at-seat ms c.args.seat q.within q.together.once x c.put_in.new.loaded c.index-modules-seat-2.is did.dimm d)
+    (flip-pass ms c.args.seat q.within q.together.once x c.put_in.new.loaded c.index-modules-seat-2.is did.dimm g.R.Shown c.args.rig.now c.put_in.new.rig c.args.regions.now c.args.regions.now
+    (IsOneOf (labels_in ms) (with_put_at (dimm_at ms c.args.seat) (first_slot_in here) c.args.label.now c.args.replaces (labels_in ms))) (Err c.in-Err.failed) did.size refl
+    (inl (kept-labels ms c.args.seat q.within q.together.once x c.put_in.new.loaded c.index-modules-seat-2.is did.dimm c.in-Err.ensures.kept))
+    did.writes_only c.in-Err.ensures.cause c.in-Err.ensures.names did.reads (λ told stored. tt)
+    (λ told all. either-put ms c.args.seat q.within q.together.once x c.put_in.new.loaded c.index-modules-seat-2.is did.dimm c.args.label.now c.args.replaces (can x c.args.replaces q.together q.within (q.free x) (q.replaces x)) did.within did.was_free
+    g.R.Shown c.args.rig.now c.put_in.new.rig all (did.any_moment told)))
 
 pub returns-in-Ok-clause-regions : goal.returns-in-Ok-clause-regions
 returns-in-Ok-clause-regions g c = λ d.

@@ -9,6 +9,7 @@ use Rattle.module_flips.specs.Flips.{IsFreedAt, without_slots_at}
 use Rattle.module_flips.specs.Releases.{has_or_is_dead, released_slots}
 use Rattle.module_flips.specs.Sweeps.{is_unwanted}
 use Rattle.module_flips.proofs.FreedModules.{can-free-at}
+use Rattle.module_flips.proofs.Passes.{pass-as, still-ended, still-failed}
 use Rattle.module_flips.proofs.ReleasedModules.{count-is, keeps-or-releases, released-to}
 use Rattle.module_flips.proofs.Slots.{few-below}
 use Rattle.module_flips.proofs.release.release_labels.Goals as goal
@@ -49,12 +50,12 @@ returns-in-Ok-clause-released g c =
     (c.in-Ok.ensures.labels ∙ ap (λ ss. without_slots_at (dimm_at ms c.args.seat) ss L) same)
     (room_after_free (dimm_at ms c.args.seat) (length c.deref-3.result.now)) c.in-Ok.ensures.regions c.in-Ok.ensures.over
 
-pub returns-in-Ok-clause-any_moment : goal.returns-in-Ok-clause-any_moment
-returns-in-Ok-clause-any_moment g c = λ told all.
-    keeps-or-releases c.args.modules.now c.args.regions.now c.args.seat c.requires.within c.requires.together c.args.uuid.now c.requires.held c.index-all-seat.result g.R.Shown c.args.rig.now c.free_at.new.rig c.deref-2.result.now
-    (c.deref-2.ensures.value ∙ c.list_released.ensures.slots ∙ ap (released_slots (platform_of c.args.regions.now) (labels_in c.args.modules.now) c.args.uuid.now) c.index-all-seat.is) (c.free_at.ensures.any_moment told all)
+pub returns-in-Ok-clause-pass : goal.returns-in-Ok-clause-pass
+returns-in-Ok-clause-pass g c =
+    still-ended (pass-as (keeps-or-releases c.args.modules.now c.args.regions.now c.args.seat c.requires.within c.requires.together c.args.uuid.now c.requires.held c.index-all-seat.result c.deref-2.result.now
+    (c.deref-2.ensures.value ∙ c.list_released.ensures.slots ∙ ap (released_slots (platform_of c.args.regions.now) (labels_in c.args.modules.now) c.args.uuid.now) c.index-all-seat.is)) c.in-Ok.ensures.pass)
 
-pub returns-in-Err-clause-any_moment : goal.returns-in-Err-clause-any_moment
-returns-in-Err-clause-any_moment g c = λ told all.
-    keeps-or-releases c.args.modules.now c.args.regions.now c.args.seat c.requires.within c.requires.together c.args.uuid.now c.requires.held c.index-all-seat.result g.R.Shown c.args.rig.now c.free_at.new.rig c.deref-2.result.now
-    (c.deref-2.ensures.value ∙ c.list_released.ensures.slots ∙ ap (released_slots (platform_of c.args.regions.now) (labels_in c.args.modules.now) c.args.uuid.now) c.index-all-seat.is) (c.free_at.ensures.any_moment told all)
+pub returns-in-Err-clause-pass : goal.returns-in-Err-clause-pass
+returns-in-Err-clause-pass g c =
+    still-failed (pass-as (keeps-or-releases c.args.modules.now c.args.regions.now c.args.seat c.requires.within c.requires.together c.args.uuid.now c.requires.held c.index-all-seat.result c.deref-2.result.now
+    (c.deref-2.ensures.value ∙ c.list_released.ensures.slots ∙ ap (released_slots (platform_of c.args.regions.now) (labels_in c.args.modules.now) c.args.uuid.now) c.index-all-seat.is)) c.in-Err.ensures.pass)

@@ -1,21 +1,21 @@
-use Rattle.std.proofs.Common.{◌≡◌, ◌*◌, ◌≤◌, ℕ, [], ◌∷◌, List, length, get_or, map, refl, sym, ap, subst, ◌∙◌, Result, Ok, Err, eqb-true, arith}
+use Rattle.std.proofs.Common.{◌≡◌, ◌*◌, ◌≤◌, ℕ, [], ◌∷◌, List, length, get_or, refl, sym, ap, subst, ◌∙◌, Result, Ok, Err, true, false, eq-eqb, eqb-true, arith}
 use Rattle.std.specs.Prelude.{vec_capacity, vec_len}
 use Rattle.std.specs.Result.{OnOk}
 use Rattle.label_table.specs.Tables.{state}
 use Rattle.region_labels.specs.declared.modules.LoadedModule.{LoadedModule}
 use Rattle.region_labels.specs.declared.region.RegionLabels.{RegionLabels}
 use Rattle.region_labels.specs.Fates.{platform_of}
-use Rattle.region_labels.specs.Modules.{dimm_of, labels_in, module_in}
+use Rattle.region_labels.specs.Modules.{labels_in, module_in}
 use Rattle.region_labels.specs.Changes.{dimm_at}
 use Rattle.region_labels.specs.SlotLabels.{slot_labels}
 use Rattle.region_labels.specs.Rooms.{position_count, room_after_free}
 use Rattle.module_flips.specs.Flips.{IsFreedAt, without_slots_at}
-use Rattle.module_flips.proofs.Standing.{stands}
-use Rattle.module_flips.proofs.Turned.{no_flip}
+use Rattle.module_flips.specs.Passes.{kept_of}
+use Rattle.module_flips.proofs.Passes.{no-pass, pass-as}
 use Rattle.module_flips.specs.Sweeps.{is_dead_of, is_unwanted, unwanted_slots}
 use Rattle.module_flips.proofs.FreedModules.{can-free-at}
 use Rattle.module_flips.proofs.Slots.{few-below}
-use Rattle.module_flips.proofs.SweptModules.{keeps-state, swept-already, swept-to}
+use Rattle.module_flips.proofs.SweptModules.{keeps-state, none-unwanted, swept-already, swept-to}
 use Rattle.module_flips.proofs.sweep.sweep_labels.Goals as goal
 
 on_ok : {T E A B C D F : Type 0} (r : Result T E) → (A → B → C → D → F) → OnOk r A → OnOk r B → OnOk r C → OnOk r D → OnOk r F
@@ -34,10 +34,9 @@ returns-then-is_empty-clause-swept g c =
     swept-already c.args.modules.now c.args.regions.now c.args.seat q.within q.together c.index-all-seat.result
     (sym (c.list_unwanted.ensures.slots ∙ ap (λ (m : LoadedModule). unwanted_slots (is_dead_of (platform_of c.args.regions.now) (labels_in c.args.modules.now) m) m) c.index-all-seat.is) ∙ none)
 
-pub returns-then-is_empty-clause-any_moment : goal.returns-then-is_empty-clause-any_moment
-returns-then-is_empty-clause-any_moment g c = λ told all.
-    no_flip (map dimm_of c.args.modules.now) (λ labels. state (platform_of c.args.regions.now) labels ≡ state (platform_of c.args.regions.now) (labels_in c.args.modules.now)) (labels_in c.args.modules.now)
-    (stands c.args.modules.now (g.R.Shown.areas c.args.rig.now) all) refl
+pub returns-then-is_empty-clause-pass : goal.returns-then-is_empty-clause-pass
+returns-then-is_empty-clause-pass g c = no-pass (dimm_at c.args.modules.now c.args.seat ∷ []) (λ labels. state (platform_of c.args.regions.now) labels ≡ state (platform_of c.args.regions.now) (labels_in c.args.modules.now))
+    (kept_of c.args.modules.now c.args.regions.now) c.args.rig.now tt refl
 
 pub list_labels-requires : goal.list_labels-requires
 list_labels-requires g c =
@@ -73,9 +72,22 @@ returns-clause-swept g c =
     room kept over (λ r. let more : ℕ = length c.deref-3.result.now * position_count (dimm_at ms c.args.seat) r.region in omega arith))
     c.free_at.ensures.freed c.free_at.ensures.labels c.free_at.ensures.over c.free_at.ensures.regions
 
-pub returns-clause-any_moment : goal.returns-clause-any_moment
-returns-clause-any_moment g c = λ told all.
+pub returns-clause-pass : goal.returns-clause-pass
+returns-clause-pass g c =
     let P = platform_of c.args.regions.now in
     let L = labels_in c.args.modules.now in
-    keeps-state c.args.modules.now c.args.regions.now c.args.seat c.requires.within c.requires.together c.index-all-seat.result g.R.Shown c.args.rig.now c.free_at.new.rig c.deref-2.result.now
-    (c.deref-2.ensures.value ∙ c.list_unwanted.ensures.slots ∙ ap (λ (m : LoadedModule). unwanted_slots (is_dead_of P L m) m) c.index-all-seat.is) (c.free_at.ensures.any_moment told all)
+    pass-as (keeps-state c.args.modules.now c.args.regions.now c.args.seat c.requires.within c.requires.together c.index-all-seat.result c.deref-2.result.now
+    (c.deref-2.ensures.value ∙ c.list_unwanted.ensures.slots ∙ ap (λ (m : LoadedModule). unwanted_slots (is_dead_of P L m) m) c.index-all-seat.is)) c.free_at.ensures.pass
+
+pub returns-clause-idle : goal.returns-clause-idle
+returns-clause-idle g c = λ clean.
+    let P = platform_of c.args.regions.now in
+    let L = labels_in c.args.modules.now in
+    let none : c.list_unwanted.new.slots.items ≡ [] =
+    c.list_unwanted.ensures.slots ∙ ap (λ (m : LoadedModule). unwanted_slots (is_dead_of P L m) m) c.index-all-seat.is
+    ∙ none-unwanted c.args.modules.now c.args.regions.now c.args.seat c.requires.within c.requires.together c.index-all-seat.result clean in
+    let len : vec_len c.list_unwanted.new.slots ≡ 0 = c.list_unwanted.new.slots.ok.0 ∙ ap length none in
+    absurd (apart (sym (eq-eqb (vec_len c.list_unwanted.new.slots) 0 len) ∙ sym c.is_empty.ensures ∙ c.if-is_empty.false))
+  where
+    apart : true ≡ false → ⊥
+    apart e = cc

@@ -49,7 +49,7 @@ returns-in-Create-clause-done g c =
 
 pub returns-in-Create-clause-among : goal.returns-in-Create-clause-among
 returns-in-Create-clause-among g c =
-    region-among g.R.Shown c.args.rig.now c.create.new.rig c.args.platform.now c.requires.sound c.in-Create.region c.create.result c.create.ensures.cause
+    region-among g.R.Shown c.args.rig.now c.create.new.rig c.args.platform.now c.requires.sound c.in-Create.region c.create.result c.create.ensures.pass.cause
 
 pub returns-in-Destroy-clause-done : goal.returns-in-Destroy-clause-done
 returns-in-Destroy-clause-done g c =
@@ -58,7 +58,7 @@ returns-in-Destroy-clause-done g c =
 
 pub returns-in-Destroy-clause-among : goal.returns-in-Destroy-clause-among
 returns-in-Destroy-clause-among g c =
-    region-among g.R.Shown c.args.rig.now c.destroy.new.rig c.args.platform.now c.requires.sound c.in-Destroy.region c.destroy.result c.destroy.ensures.cause
+    region-among g.R.Shown c.args.rig.now c.destroy.new.rig c.args.platform.now c.requires.sound c.in-Destroy.region c.destroy.result c.destroy.ensures.pass.cause
 
 pub returns-in-Rename-clause-done : goal.returns-in-Rename-clause-done
 returns-in-Rename-clause-done g c =
@@ -67,7 +67,7 @@ returns-in-Rename-clause-done g c =
 
 pub returns-in-Rename-clause-among : goal.returns-in-Rename-clause-among
 returns-in-Rename-clause-among g c =
-    region-among g.R.Shown c.args.rig.now c.rename.new.rig c.args.platform.now c.requires.sound c.in-Rename.region c.rename.result c.rename.ensures.cause
+    region-among g.R.Shown c.args.rig.now c.rename.new.rig c.args.platform.now c.requires.sound c.in-Rename.region c.rename.result c.rename.ensures.pass.cause
 
 pub returns-in-ReleaseHeld-clause-done : goal.returns-in-ReleaseHeld-clause-done
 returns-in-ReleaseHeld-clause-done g c =

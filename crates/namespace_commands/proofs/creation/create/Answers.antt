@@ -1,47 +1,55 @@
-use Rattle.std.proofs.Common.{◌≡◌, inl, true, [], map, Option, Some, None, refl, sym, ap, subst, ◌∙◌}
+use Rattle.std.proofs.Common.{◌≡◌, true, List, ℕ, Result, Ok, Err, Option, Some, None, sym, ap, subst, ◌∙◌}
 use Rattle.std.specs.List.{All}
-use Rattle.std.specs.Option.{option_copied, option_map_or}
-use Rattle.std.specs.Result.{IfOk}
-use Rattle.view_types.specs.declared.reply.Reply.TheVariants.{Refused}
-use Rattle.rig_trait.specs.Frames.{LeavesOnly}
-use Rattle.rig_trait.proofs.Lying.{at_ok}
-use Rattle.region_map.specs.declared.platform.Region.{Region}
+use Rattle.std.specs.Option.{option_copied}
+use Rattle.view_types.specs.declared.reply.Reply.{Reply}
+use Rattle.rig_trait.specs.declared.shown.Shown.{Ghosts}
+use Rattle.region_map.specs.declared.platform.Platform.{Platform}
 use Rattle.region_map.specs.Platforms.{region_at}
-use Rattle.region_labels.specs.Modules.{dimm_of, size_in}
+use Rattle.module_flips.specs.declared.flips.AreaFailed.{AreaFailed}
 use Rattle.module_flips.specs.Flips.{IsSizedIn}
-use Rattle.region_labels.specs.Regions.{handles}
-use Rattle.module_flips.specs.Stops.{LeftIn, WritesAmong}
-use Rattle.module_flips.specs.Stored.{StandsIn}
-use Rattle.module_flips.proofs.Standing.{stands}
-use Rattle.module_flips.proofs.Turned.{no_flip}
-use Rattle.namespace_passes.proofs.Records.{no_write}
-use Rattle.label_sets.specs.Sets.{StoredSets, labels_in, state_in}
+use Rattle.module_flips.specs.Passes.{IsPass}
+use Rattle.label_sets.specs.Sets.{StoredSets, kept_in, labels_in, state_in}
+use Rattle.table_steps.specs.declared.new_namespace.NewNamespace.{NewNamespace}
 use Rattle.table_steps.specs.Create.{Creates, IsCreated}
 use Rattle.view_types.specs.Replies.{WhereRefused}
-use Rattle.namespace_commands.specs.Create.{HasChangeCause, IsBeforeOrAfter, IsCreateRefusal, IsNewSpace, modules_of}
+use Rattle.namespace_commands.specs.declared.creation.ChangeFault.{ChangeFault}
+use Rattle.namespace_commands.specs.Commands.{IsChange}
+use Rattle.namespace_commands.specs.Create.{IsBeforeOrAfter, IsCreateRefusal, IsNewSpace, modules_of}
 use Rattle.namespace_commands.specs.Lists.{IsStateOf}
-use Rattle.namespace_commands.proofs.CreateEnds.{creates-accepted, creates-refused, not-memory, region-there, unrefused-reply}
+use Rattle.namespace_commands.proofs.ChangeEnds.{modules-found}
+use Rattle.namespace_commands.proofs.CreateEnds.{creates-accepted, creates-refused, region-there, unrefused-reply}
+use Rattle.namespace_commands.proofs.Passes.{done-change, failed-change, memory-change, refused-change}
 use Rattle.namespace_commands.proofs.RecoveredSpaces.{state-there}
 use Rattle.namespace_commands.proofs.creation.create.Goals as goal
 
--- Nothing is written where it is refused.
-pub returns-in-Ok-Some-clause-step : goal.returns-in-Ok-Some-clause-step
-returns-in-Ok-Some-clause-step g c =
+-- a create that left all as it was
+unchanged : {R : Type 0} {m : Ghosts R} {rig : R} (P : Platform) (a : NewNamespace) (sets now : StoredSets) (result : Result Reply ChangeFault) → now ≡ sets
+    → IsChange (modules_of P a.region) P (Creates P (labels_in sets) a) m sets rig sets rig result → IsChange (modules_of P a.region) P (Creates P (labels_in sets) a) m sets rig now rig result
+unchanged {R} {m} {rig} P a sets now result same change = subst (λ (s : StoredSets). IsChange (modules_of P a.region) P (Creates P (labels_in sets) a) m sets rig s rig result) (sym same) change
+
+pub returns-in-Ok-Some : goal.returns-in-Ok-Some
+returns-in-Ok-Some g c =
     let P = c.args.platform.now in
     let sets = c.args.sets.now in
     let a = c.args.asked.now in
-    subst (λ (after : StoredSets). Creates P (labels_in sets) a (Refused c.in-Ok-Some.refusal) (state_in after)) (sym c.create_refusal.ensures.same)
+    unchanged P a sets c.create_refusal.new.sets _ c.create_refusal.ensures.same
+    (refused-change g.R.Shown (modules_of P a.region) P (Creates P (labels_in sets) a) sets c.args.rig.now c.in-Ok-Some.refusal
     (creates-refused P (labels_in sets) a c.in-Ok-Some.refusal (state_in sets)
-    (λ free are. c.in-Ok-Some.ensures.refusal free are ∙ c.in-Ok-Some.field-0-is) (state-there P sets c.requires.state.regions (labels_in sets)))
+    (λ free are. c.in-Ok-Some.ensures.refusal free are ∙ c.in-Ok-Some.field-0-is) (state-there P sets c.requires.state.regions (labels_in sets))))
 
-pub returns-in-Ok-Some-clause-any_moment : goal.returns-in-Ok-Some-clause-any_moment
-returns-in-Ok-Some-clause-any_moment g c = λ told all.
-    let sets = c.args.sets.now in
+pub returns-in-Err : goal.returns-in-Err
+returns-in-Err g c =
     let P = c.args.platform.now in
-    no_flip {m = g.R.Shown} {old = c.args.rig.now} (map dimm_of sets.modules) (IsBeforeOrAfter P (labels_in sets) c.args.asked.now) (labels_in sets) (stands sets.modules (g.R.Shown.areas c.args.rig.now) all) (inl refl)
+    let sets = c.args.sets.now in
+    let a = c.args.asked.now in
+    unchanged P a sets c.create_refusal.new.sets _ c.create_refusal.ensures.same (memory-change g.R.Shown (modules_of P a.region) P (Creates P (labels_in sets) a) sets c.args.rig.now)
 
-pub returns-in-Ok-Some-clause-writes_among : goal.returns-in-Ok-Some-clause-writes_among
-returns-in-Ok-Some-clause-writes_among g c = no_write {m = g.R.Shown} (modules_of c.args.platform.now c.args.asked.now.region) c.args.rig.now
+pub returns-in_default-prepare : goal.returns-in_default-prepare
+returns-in_default-prepare g c =
+    let P = c.args.platform.now in
+    let sets = c.args.sets.now in
+    let a = c.args.asked.now in
+    unchanged P a sets c.prepare.new.sets _ (c.in_default-prepare.ensures.kept ∙ c.create_refusal.ensures.same) (memory-change g.R.Shown (modules_of P a.region) P (Creates P (labels_in sets) a) sets c.args.rig.now)
 
 -- The region is there.
 pub unreachable-requires : goal.unreachable-requires
@@ -82,73 +90,34 @@ make-requires-clause-room g c = ap (λ (s : StoredSets). s.room) (c.in-Ok.ensure
 pub make-requires-clause-sized : goal.make-requires-clause-sized
 make-requires-clause-sized g c = λ told. subst (λ (s : StoredSets). All (IsSizedIn (g.R.Shown.areas c.args.rig.now)) s.modules) (sym (c.in-Ok.ensures.room ∙ ap (λ (s : StoredSets). record s { room = true }) c.create_refusal.ensures.same)) (c.requires.sized told)
 
-pub returns-in-Ok-clause-step : goal.returns-in-Ok-clause-step
-returns-in-Ok-clause-step g c =
+-- what is made of the state with room is made of the state
+without-room : {R T : Type 0} {m : Ghosts R} {old new : R} {result : Result T AreaFailed} (P : Platform) (a : NewNamespace) (hs : List ℕ) (sets with now : StoredSets) → hs ≡ modules_of P a.region → with ≡ record sets { room = true }
+    → IsPass hs (IsBeforeOrAfter P (labels_in with) a) m (kept_in with) old (kept_in now) new result → IsPass (modules_of P a.region) (IsBeforeOrAfter P (labels_in sets) a) m (kept_in sets) old (kept_in now) new result
+without-room {R} {T} {m} {old} {new} {result} P a hs sets with now same is pass =
+    subst (λ (xs : List ℕ). IsPass xs (IsBeforeOrAfter P (labels_in sets) a) m (kept_in sets) old (kept_in now) new result) same
+    (subst (λ (s : StoredSets). IsPass hs (IsBeforeOrAfter P (labels_in s) a) m (kept_in s) old (kept_in now) new result) is pass)
+
+pub returns-in-Ok-make : goal.returns-in-Ok-make
+returns-in-Ok-make g c =
     let P = c.args.platform.now in
+    let sets = c.args.sets.now in
+    let a = c.args.asked.now in
+    let r = c.in-Some.region.now in
+    let now = c.make.new.sets in
+    let known : region_at P a.region ≡ Some r = sym c.region.ensures ∙ ap option_copied c.in-Some.is in
+    let made = c.in-Ok-make.ensures.made in
+    let does = creates-accepted P (labels_in sets) a r known (λ free are. c.in-Ok-None.ensures.refusal free are ∙ c.in-Ok-None.field-0-is) c.in-Ok-make.reply (state_in now)
+    (subst (λ (s : StoredSets). IsCreated P (labels_in s) a c.in-Ok-make.reply (state_in now)) (c.in-Ok.ensures.room ∙ ap (λ (s : StoredSets). record s { room = true }) c.create_refusal.ensures.same) made) in
+    done-change g.R.Shown (modules_of P a.region) P (Creates P (labels_in sets) a) sets c.args.rig.now c.make.new.rig (IsBeforeOrAfter P (labels_in sets) a) now (λ N fit. fit) c.in-Ok-make.reply c.in-Ok-make.reply
+    (without-room P a _ sets c.prepare.new.sets now (modules-found P a.region r known) (c.in-Ok.ensures.room ∙ ap (λ (s : StoredSets). record s { room = true }) c.create_refusal.ensures.same) c.in-Ok-make.ensures.pass)
+    (λ fact. unrefused-reply P (labels_in c.prepare.new.sets) a fact c.in-Ok-make.reply (state_in now) made) does
+
+pub returns-in-Err-make : goal.returns-in-Err-make
+returns-in-Err-make g c =
+    let P = c.args.platform.now in
+    let sets = c.args.sets.now in
     let a = c.args.asked.now in
     let r = c.in-Some.region.now in
     let known : region_at P a.region ≡ Some r = sym c.region.ensures ∙ ap option_copied c.in-Some.is in
-    let made : IfOk c.make.result (λ reply. IsCreated P (labels_in c.args.sets.now) a reply (state_in c.make.new.sets)) =
-    subst (λ (s : StoredSets). IfOk c.make.result (λ reply. IsCreated P (labels_in s) a reply (state_in c.make.new.sets))) (c.in-Ok.ensures.room ∙ ap (λ (s : StoredSets). record s { room = true }) c.create_refusal.ensures.same) c.make.ensures.made in
-    at_ok c.make.result (λ reply. IsCreated P (labels_in c.args.sets.now) a reply (state_in c.make.new.sets)) (λ reply. Creates P (labels_in c.args.sets.now) a reply (state_in c.make.new.sets))
-    (λ reply is. creates-accepted P (labels_in c.args.sets.now) a r known (λ free are. c.in-Ok-None.ensures.refusal free are ∙ c.in-Ok-None.field-0-is) reply (state_in c.make.new.sets) is) made
-
-pub returns-in-Ok-clause-refused : goal.returns-in-Ok-clause-refused
-returns-in-Ok-clause-refused g c =
-    at_ok c.make.result _ (WhereRefused (c.make.new.sets ≡ c.args.sets.now)) (λ reply is. unrefused-reply c.args.platform.now (labels_in c.prepare.new.sets) c.args.asked.now (c.make.new.sets ≡ c.args.sets.now) reply (state_in c.make.new.sets) is) c.make.ensures.made
-
-pub returns-in-Ok-clause-unwritten : goal.returns-in-Ok-clause-unwritten
-returns-in-Ok-clause-unwritten g c =
-    at_ok c.make.result _ (WhereRefused (c.make.new.rig ≡ c.args.rig.now)) (λ reply is. unrefused-reply c.args.platform.now (labels_in c.prepare.new.sets) c.args.asked.now (c.make.new.rig ≡ c.args.rig.now) reply (state_in c.make.new.sets) is) c.make.ensures.made
-
-pub returns-in-Ok-clause-memory : goal.returns-in-Ok-clause-memory
-returns-in-Ok-clause-memory g c = not-memory (c.make.new.sets ≡ c.args.sets.now) c.make.result c.make.ensures.not_memory
-
-pub returns-in-Ok-clause-unwritten_memory : goal.returns-in-Ok-clause-unwritten_memory
-returns-in-Ok-clause-unwritten_memory g c = not-memory (c.make.new.rig ≡ c.args.rig.now) c.make.result c.make.ensures.not_memory
-
-pub returns-in-Ok-clause-regions : goal.returns-in-Ok-clause-regions
-returns-in-Ok-clause-regions g c = c.make.ensures.step.regions ∙ ap (λ (s : StoredSets). s.regions) (c.in-Ok.ensures.room ∙ ap (λ (s : StoredSets). record s { room = true }) c.create_refusal.ensures.same)
-
-pub returns-in-Ok-clause-dimms : goal.returns-in-Ok-clause-dimms
-returns-in-Ok-clause-dimms g c = c.make.ensures.step.dimms ∙ ap (λ (s : StoredSets). map dimm_of s.modules) (c.in-Ok.ensures.room ∙ ap (λ (s : StoredSets). record s { room = true }) c.create_refusal.ensures.same)
-
-pub returns-in-Ok-clause-sizes : goal.returns-in-Ok-clause-sizes
-returns-in-Ok-clause-sizes g c = c.make.ensures.step.sizes ∙ ap (λ (s : StoredSets). map size_in s.modules) (c.in-Ok.ensures.room ∙ ap (λ (s : StoredSets). record s { room = true }) c.create_refusal.ensures.same)
-
-pub returns-in-Ok-clause-stands : goal.returns-in-Ok-clause-stands
-returns-in-Ok-clause-stands g c = λ told all.
-    c.make.ensures.stands told (subst (λ (s : StoredSets). All (StandsIn (g.R.Shown.areas c.args.rig.now)) s.modules) (sym (c.in-Ok.ensures.room ∙ ap (λ (s : StoredSets). record s { room = true }) c.create_refusal.ensures.same)) all)
-
-pub returns-in-Ok-clause-any_moment : goal.returns-in-Ok-clause-any_moment
-returns-in-Ok-clause-any_moment g c = λ told all.
-    let P = c.args.platform.now in
-    let there = c.make.ensures.step.any_moment told (subst (λ (s : StoredSets). All (StandsIn (g.R.Shown.areas c.args.rig.now)) s.modules) (sym (c.in-Ok.ensures.room ∙ ap (λ (s : StoredSets). record s { room = true }) c.create_refusal.ensures.same)) all) in
-    subst (λ (s : StoredSets). LeavesOnly g.R.Shown c.args.rig.now c.make.new.rig (LeftIn (map dimm_of s.modules) (g.R.Shown.said c.args.rig.now) (IsBeforeOrAfter P (labels_in s) c.args.asked.now))) (c.in-Ok.ensures.room ∙ ap (λ (s : StoredSets). record s { room = true }) c.create_refusal.ensures.same) there
-
-pub returns-in-Ok-clause-writes_among : goal.returns-in-Ok-clause-writes_among
-returns-in-Ok-clause-writes_among g c =
-    subst (λ (found : Option Region). WritesAmong (option_map_or handles found []) g.R.Shown c.args.rig.now c.make.new.rig) (ap option_copied (sym c.in-Some.is) ∙ c.region.ensures) c.make.ensures.step.writes
-
-pub returns-in-Ok-clause-cause : goal.returns-in-Ok-clause-cause
-returns-in-Ok-clause-cause g c =
-    subst (λ (found : Option Region). HasChangeCause (option_map_or handles found []) g.R.Shown c.args.rig.now c.make.new.rig c.make.result) (ap option_copied (sym c.in-Some.is) ∙ c.region.ensures) c.make.ensures.cause
-
--- No memory was given.
-pub returns-in-Err-clause-any_moment : goal.returns-in-Err-clause-any_moment
-returns-in-Err-clause-any_moment g c = λ told all.
-    let sets = c.args.sets.now in
-    let P = c.args.platform.now in
-    no_flip {m = g.R.Shown} {old = c.args.rig.now} (map dimm_of sets.modules) (IsBeforeOrAfter P (labels_in sets) c.args.asked.now) (labels_in sets) (stands sets.modules (g.R.Shown.areas c.args.rig.now) all) (inl refl)
-
-pub returns-in-Err-clause-writes_among : goal.returns-in-Err-clause-writes_among
-returns-in-Err-clause-writes_among g c = no_write {m = g.R.Shown} (modules_of c.args.platform.now c.args.asked.now.region) c.args.rig.now
-
-pub returns-in-Err-prepare-clause-any_moment : goal.returns-in-Err-prepare-clause-any_moment
-returns-in-Err-prepare-clause-any_moment g c = λ told all.
-    let sets = c.args.sets.now in
-    let P = c.args.platform.now in
-    no_flip {m = g.R.Shown} {old = c.args.rig.now} (map dimm_of sets.modules) (IsBeforeOrAfter P (labels_in sets) c.args.asked.now) (labels_in sets) (stands sets.modules (g.R.Shown.areas c.args.rig.now) all) (inl refl)
-
-pub returns-in-Err-prepare-clause-writes_among : goal.returns-in-Err-prepare-clause-writes_among
-returns-in-Err-prepare-clause-writes_among g c = no_write {m = g.R.Shown} (modules_of c.args.platform.now c.args.asked.now.region) c.args.rig.now
+    failed-change g.R.Shown (modules_of P a.region) P (Creates P (labels_in sets) a) sets c.args.rig.now c.make.new.rig (IsBeforeOrAfter P (labels_in sets) a) c.make.new.sets (λ N fit. fit) c.in-Err-make.failed
+    (without-room P a _ sets c.prepare.new.sets c.make.new.sets (modules-found P a.region r known) (c.in-Ok.ensures.room ∙ ap (λ (s : StoredSets). record s { room = true }) c.create_refusal.ensures.same) c.in-Err-make.ensures.pass)

@@ -3,11 +3,12 @@ use Rattle.std.specs.Option.{option_copied}
 use Rattle.view_types.specs.declared.reply.Reply.TheVariants.{Destroyed}
 use Rattle.region_map.specs.Platforms.{region_at}
 use Rattle.label_table.specs.Tables.{state}
-use Rattle.label_sets.specs.Sets.{labels_in, state_in}
+use Rattle.module_flips.specs.Passes.{IsPass}
+use Rattle.label_sets.specs.Sets.{kept_in, labels_in, state_in}
 use Rattle.table_steps.specs.Destroy.{Destroys, IsDestroyed, destroy_refusals}
 use Rattle.table_steps.specs.Refusals.{first_of}
 use Rattle.table_steps.proofs.AcceptedChanges.{unrefused-destroy}
-use Rattle.namespace_commands.specs.Commands.{IsPassOf, IsTableOrWithout}
+use Rattle.namespace_commands.specs.Commands.{IsTableOrWithout}
 use Rattle.namespace_commands.specs.Create.{modules_of}
 use Rattle.namespace_commands.specs.Keys.{IsRefusedBy}
 use Rattle.namespace_commands.proofs.ChangeEnds.{destroy-fits, destroys, done-refused, modules-found}
@@ -72,7 +73,7 @@ returns-in-Ok-take_away g c =
     let only = (c.in-Ok.ensures.chosen.chosen r known).fits.only in
     done-change g.R.Shown (modules_of P index) P (Destroys P L index key) sets c.args.rig.now c.take_away.new.rig F now
     (destroy-fits P sets c.requires.state.regions index key r known s only c.in-Ok.ensures.unrefused) tt (Destroyed s.uuid)
-    (subst (λ (hs : List ℕ). IsPassOf hs g.R.Shown F sets c.args.rig.now now c.take_away.new.rig (Ok tt)) (modules-found P index r known) c.in-Ok-take_away.ensures.pass)
+    (subst (λ (hs : List ℕ). IsPass hs F g.R.Shown (kept_in sets) c.args.rig.now (kept_in now) c.take_away.new.rig (Ok tt)) (modules-found P index r known) c.in-Ok-take_away.ensures.pass)
     (λ fact. tt)
     (destroys P sets c.requires.state.regions index key r known s only c.in-Ok.ensures.unrefused (state_in now) c.in-Ok-take_away.ensures.destroyed)
 
@@ -91,4 +92,4 @@ returns-in-Err g c =
     let only = (c.in-Ok.ensures.chosen.chosen r known).fits.only in
     failed-change g.R.Shown (modules_of P index) P (Destroys P L index key) sets c.args.rig.now c.take_away.new.rig F now
     (destroy-fits P sets c.requires.state.regions index key r known s only c.in-Ok.ensures.unrefused) c.in-Err.failed
-    (subst (λ (hs : List ℕ). IsPassOf {T = Unit {0}} hs g.R.Shown F sets c.args.rig.now now c.take_away.new.rig (Err c.in-Err.failed)) (modules-found P index r known) c.in-Err.ensures.pass)
+    (subst (λ (hs : List ℕ). IsPass {T = Unit {0}} hs F g.R.Shown (kept_in sets) c.args.rig.now (kept_in now) c.take_away.new.rig (Err c.in-Err.failed)) (modules-found P index r known) c.in-Err.ensures.pass)

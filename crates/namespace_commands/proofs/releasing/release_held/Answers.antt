@@ -1,10 +1,11 @@
-use Rattle.std.proofs.Common.{ℕ, [], ◌∷◌, Ok, Err, sym, ◌∙◌}
+use Rattle.std.proofs.Common.{[], ◌∷◌, sym, ◌∙◌}
 use Rattle.view_types.specs.declared.reply.Reply.TheVariants.{Released}
+use Rattle.module_flips.proofs.Turned.{only-one}
 use Rattle.module_flips.specs.Releases.{IsBeforeOrReleased}
 use Rattle.label_sets.specs.Sets.{labels_in, platform_in, state_in}
 use Rattle.table_steps.specs.Release.{Releases}
 use Rattle.namespace_commands.proofs.Passes.{done-change, failed-change, memory-change, refused-change}
-use Rattle.namespace_commands.proofs.ReleaseEnds.{can-release, flip-pass, known-there, release-fits, releases, releases-refused}
+use Rattle.namespace_commands.proofs.ReleaseEnds.{can-release, known-there, release-fits, releases, releases-refused}
 use Rattle.namespace_commands.proofs.releasing.release_held.Goals as goal
 
 pub returns-in-Ok-Some-clause-change : goal.returns-in-Ok-Some-clause-change
@@ -35,12 +36,11 @@ returns-in-Ok-clause-change g c =
     let now = c.release.new.self in
     let u = c.args.uuid.now in
     let dimm = c.args.dimm in
-    let did = c.release.ensures in
     let same = c.requires.state.regions in
     let none = sym c.in-Ok-None.ensures ∙ c.in-Ok-None.field-0-is in
     let F = IsBeforeOrReleased (platform_in sets) dimm u (labels_in sets) in
     done-change g.R.Shown (dimm ∷ []) P (Releases P (labels_in sets) dimm u) sets c.args.rig.now c.release.new.rig F now (release-fits P sets same dimm u none) c.in-Ok.count (Released c.in-Ok.count)
-    (flip-pass g.R.Shown dimm F sets now (Ok c.in-Ok.count) did.regions did.dimms did.sizes c.in-Ok.ensures.stands did.any_moment did.writes_only c.in-Ok.ensures.cause c.in-Ok.ensures.names did.reads)
+    c.in-Ok.ensures.pass
     (λ fact. tt) (releases P sets same dimm u none c.in-Ok.count (state_in now) c.in-Ok.ensures.count c.in-Ok.ensures.released)
 
 pub returns-in-Err-release-clause-change : goal.returns-in-Err-release-clause-change
@@ -50,13 +50,12 @@ returns-in-Err-release-clause-change g c =
     let now = c.release.new.self in
     let u = c.args.uuid.now in
     let dimm = c.args.dimm in
-    let did = c.release.ensures in
     let same = c.requires.state.regions in
     let none = sym c.in-Ok-None.ensures ∙ c.in-Ok-None.field-0-is in
     let F = IsBeforeOrReleased (platform_in sets) dimm u (labels_in sets) in
     failed-change g.R.Shown (dimm ∷ []) P (Releases P (labels_in sets) dimm u) sets c.args.rig.now c.release.new.rig F now (release-fits P sets same dimm u none) c.in-Err-release.failed
-    (flip-pass g.R.Shown dimm {T = ℕ} F sets now (Err c.in-Err-release.failed) did.regions did.dimms did.sizes c.in-Err-release.ensures.stands did.any_moment did.writes_only c.in-Err-release.ensures.cause c.in-Err-release.ensures.names did.reads)
+    c.in-Err-release.ensures.pass
 
 pub returns-in-Err-release-clause-among : goal.returns-in-Err-release-clause-among
 returns-in-Err-release-clause-among g c =
-    known-there c.args.platform.now c.args.sets.now c.requires.state.regions c.args.dimm c.args.uuid.now (sym c.in-Ok-None.ensures ∙ c.in-Ok-None.field-0-is) c.requires.sound c.in-Err-release.failed.dimm c.in-Err-release.ensures.names
+    known-there c.args.platform.now c.args.sets.now c.requires.state.regions c.args.dimm c.args.uuid.now (sym c.in-Ok-None.ensures ∙ c.in-Ok-None.field-0-is) c.requires.sound c.in-Err-release.failed.dimm (only-one c.args.dimm c.in-Err-release.failed.dimm c.in-Err-release.ensures.pass.cause.known)

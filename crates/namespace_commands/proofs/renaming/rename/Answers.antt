@@ -3,11 +3,12 @@ use Rattle.std.specs.Option.{option_copied}
 use Rattle.view_types.specs.declared.reply.Reply.TheVariants.{Renamed}
 use Rattle.region_map.specs.Platforms.{region_at}
 use Rattle.label_table.specs.Tables.{state}
-use Rattle.label_sets.specs.Sets.{labels_in, state_in}
+use Rattle.module_flips.specs.Passes.{IsPass}
+use Rattle.label_sets.specs.Sets.{kept_in, labels_in, state_in}
 use Rattle.table_steps.specs.Rename.{IsRenamed, Renames, rename_refusals}
 use Rattle.table_steps.specs.Refusals.{first_of}
 use Rattle.table_steps.proofs.AcceptedChanges.{unrefused-rename}
-use Rattle.namespace_commands.specs.Commands.{IsPassOf, IsTableOrNamed}
+use Rattle.namespace_commands.specs.Commands.{IsTableOrNamed}
 use Rattle.namespace_commands.specs.Create.{modules_of}
 use Rattle.namespace_commands.specs.Keys.{CanChange, IsRefusedBy}
 use Rattle.namespace_commands.proofs.ChangeEnds.{done-refused, modules-found, rename-fits, renames}
@@ -77,7 +78,7 @@ returns-in-Ok-give_name g c =
     let can : CanChange P L s r = can-change P L key s r chosen (unrefused-rename P L index key name r known c.in-Ok.ensures.unrefused).change.spares in
     done-change g.R.Shown (modules_of P index) P (Renames P L index key name) sets c.args.rig.now c.give_name.new.rig F now
     (rename-fits P sets c.requires.state.regions index key r known s only name c.in-Ok.ensures.unrefused (own-index P index r known) can) tt (Renamed s.uuid name)
-    (subst (λ (hs : List ℕ). IsPassOf hs g.R.Shown F sets c.args.rig.now now c.give_name.new.rig (Ok tt)) (modules-found P index r known) c.in-Ok-give_name.ensures.pass)
+    (subst (λ (hs : List ℕ). IsPass hs F g.R.Shown (kept_in sets) c.args.rig.now (kept_in now) c.give_name.new.rig (Ok tt)) (modules-found P index r known) c.in-Ok-give_name.ensures.pass)
     (λ fact. tt)
     (renames P sets c.requires.state.regions index key r known s only name c.in-Ok.ensures.unrefused (state_in now) c.in-Ok-give_name.ensures.renamed)
 
@@ -99,4 +100,4 @@ returns-in-Err g c =
     let can : CanChange P L s r = can-change P L key s r chosen (unrefused-rename P L index key name r known c.in-Ok.ensures.unrefused).change.spares in
     failed-change g.R.Shown (modules_of P index) P (Renames P L index key name) sets c.args.rig.now c.give_name.new.rig F now
     (rename-fits P sets c.requires.state.regions index key r known s only name c.in-Ok.ensures.unrefused (own-index P index r known) can) c.in-Err.failed
-    (subst (λ (hs : List ℕ). IsPassOf {T = Unit {0}} hs g.R.Shown F sets c.args.rig.now now c.give_name.new.rig (Err c.in-Err.failed)) (modules-found P index r known) c.in-Err.ensures.pass)
+    (subst (λ (hs : List ℕ). IsPass {T = Unit {0}} hs F g.R.Shown (kept_in sets) c.args.rig.now (kept_in now) c.give_name.new.rig (Err c.in-Err.failed)) (modules-found P index r known) c.in-Err.ensures.pass)

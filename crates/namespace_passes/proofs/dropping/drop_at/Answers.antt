@@ -16,7 +16,7 @@ use Rattle.namespace_passes.specs.Healing.{StandsAt}
 use Rattle.namespace_passes.proofs.HealFlips.{on_ok}
 use Rattle.namespace_passes.proofs.Passing.{still-kept}
 use Rattle.namespace_passes.specs.Dropping.{LosesLabel}
-use Rattle.namespace_passes.proofs.DropFlips.{can-free, dimm-is, flip-cause, flip-moment, flip-writes, freed-together, gives, label-lost}
+use Rattle.namespace_passes.proofs.DropFlips.{can-free, dimm-is, flip-pass, freed-together, gives, label-lost}
 use Rattle.namespace_passes.proofs.dropping.drop_at.Goals as goal
 
 pub free_at-requires-clause-free : goal.free_at-requires-clause-free
@@ -48,20 +48,8 @@ returns-clause-together g c =
     let did = c.free_at.ensures in
     stays (room_after_free (dimm_at c.args.modules.now c.place_of-own.result.seat) 1) c.free_at.result c.requires.within c.requires.together c.place_of-own.ensures did.freed did.over did.regions did.kept did.kept_regions
 
-pub returns-clause-any_moment : goal.returns-clause-any_moment
-returns-clause-any_moment g c = λ told all.
-    flip-moment c.args.modules.now c.args.regions.now c.args.region.now c.args.uuid.now c.args.position c.requires.within c.requires.together c.place_of-own.result c.place_of-own.ensures
-    g.R.Shown c.args.rig.now c.free_at.new.rig (c.free_at.ensures.any_moment told all)
-
-pub returns-clause-writes_among : goal.returns-clause-writes_among
-returns-clause-writes_among g c =
-    flip-writes c.args.modules.now c.args.regions.now c.args.region.now c.args.uuid.now c.args.position c.requires.within c.requires.together c.place_of-own.result c.place_of-own.ensures
-    g.R.Shown c.args.rig.now c.free_at.new.rig c.free_at.ensures.writes_only
-
-pub returns-clause-cause : goal.returns-clause-cause
-returns-clause-cause g c =
-    flip-cause c.args.modules.now c.args.regions.now c.args.region.now c.args.uuid.now c.args.position c.requires.within c.requires.together c.place_of-own.result c.place_of-own.ensures
-    g.R.Shown c.args.rig.now c.free_at.new.rig c.free_at.result c.free_at.ensures.cause c.free_at.ensures.names
+pub returns-clause-pass : goal.returns-clause-pass
+returns-clause-pass g c = flip-pass c.args.modules.now c.args.regions.now c.args.region.now c.args.uuid.now c.args.position c.requires.within c.requires.together c.place_of-own.result c.place_of-own.ensures c.free_at.ensures.pass
 
 pub returns-clause-room : goal.returns-clause-room
 returns-clause-room g c =

@@ -1,16 +1,15 @@
-use Rattle.std.proofs.Common.{◌≡◌, ◌<◌, ◌≤◌, inl, length, map, refl, ◌∙◌, arith}
+use Rattle.std.proofs.Common.{◌≡◌, ◌<◌, ◌≤◌, inl, length, refl, arith}
 use Rattle.region_labels.specs.Fates.{platform_of}
-use Rattle.region_labels.specs.Modules.{dimm_of, labels_in}
+use Rattle.region_labels.specs.Modules.{labels_in}
 use Rattle.region_labels.specs.Regions.{handles}
-use Rattle.module_flips.proofs.Standing.{stands}
-use Rattle.module_flips.proofs.Turned.{no_flip}
+use Rattle.module_flips.specs.Passes.{kept_of}
+use Rattle.module_flips.proofs.Passes.{no-pass, pass-on, sized-on}
 use Rattle.namespace_passes.proofs.Bounded.{all-bounded}
 use Rattle.namespace_passes.proofs.HealEnds.{some-members}
-use Rattle.namespace_passes.proofs.Passing.{no-pass}
-use Rattle.namespace_passes.specs.Dropping.{IsBeforeOrLost, IsBeforeOrWithout}
+use Rattle.namespace_passes.proofs.Passing.{stays-on, still-kept}
+use Rattle.namespace_passes.specs.Dropping.{IsBeforeOrWithout}
 use Rattle.namespace_passes.proofs.DropEnds.{dropped-more, dropped-start, kept-or-gone, none-left, one-there, turn-state}
 use Rattle.namespace_passes.proofs.DropSlots.{all-given, given-more, given-start, kept-elsewhere, room-all, room-more, room-start}
-use Rattle.namespace_passes.proofs.DropTurns.{moment-on, sized-on, stays-on, writes-on}
 use Rattle.namespace_passes.proofs.dropping.drop_labels.Goals as goal
 
 pub loop-position-init : goal.loop-position-init
@@ -19,13 +18,8 @@ loop-position-init g c = record {
   start = λ e. refl;
   given = given-start c.args.region.now c.args.modules.now;
   room = room-start c.args.regions.now;
-  together = (no-pass {m = g.R.Shown} (handles c.args.region.now) c.args.modules.now c.args.regions.now c.args.rig.now c.requires.can.together).together;
-  stands = λ told all. all;
-  any_moment = λ told all. no_flip (map dimm_of c.args.modules.now) (IsBeforeOrWithout (platform_of c.args.regions.now) c.args.region.now c.args.uuid.now (labels_in c.args.modules.now)) (labels_in c.args.modules.now)
-      (stands c.args.modules.now (g.R.Shown.areas c.args.rig.now) all) (inl refl);
-  writes = (no-pass {m = g.R.Shown} (handles c.args.region.now) c.args.modules.now c.args.regions.now c.args.rig.now c.requires.can.together).writes;
-  cause = record { faults = refl; failed_dimm = refl };
-  reads = refl;
+  together = (still-kept c.args.modules.now c.args.regions.now c.args.modules.now c.args.regions.now c.requires.can.together refl refl).together;
+  pass = no-pass (handles c.args.region.now) (IsBeforeOrWithout (platform_of c.args.regions.now) c.args.region.now c.args.uuid.now (labels_in c.args.modules.now)) (kept_of c.args.modules.now c.args.regions.now) c.args.rig.now tt (inl refl);
 }
 
 pub drop_at-requires-clause-one : goal.drop_at-requires-clause-one
@@ -39,11 +33,10 @@ drop_at-requires-clause-one g c =
 
 pub drop_at-requires-clause-sized : goal.drop_at-requires-clause-sized
 drop_at-requires-clause-sized g c =
-    let before = c.loop-position.invariant in
-    sized-on (handles c.args.region.now) c.args.rig.now c.loop-position.rig c.args.modules.now c.loop-position.modules c.args.regions.now c.loop-position.regions before.writes before.together c.requires.sized
+    sized-on c.loop-position.invariant.pass c.requires.sized
 
-pub returns-in-Err-clause-any_moment : goal.returns-in-Err-clause-any_moment
-returns-in-Err-clause-any_moment g c =
+pub returns-in-Err-clause-pass : goal.returns-in-Err-clause-pass
+returns-in-Err-clause-pass g c =
     let can = c.requires.can in
     let P = platform_of c.args.regions.now in
     let region = c.args.region.now in
@@ -53,9 +46,12 @@ returns-in-Err-clause-any_moment g c =
     let before = c.loop-position.invariant in
     let len : c.len-position-end.result ≡ length c.args.region.now.members = c.len-position-end.ensures in
     let lt : c.loop-position.position < length c.args.region.now.members = omega (arith, len, c.loop-position-test.true) in
-    moment-on (handles region) c.args.rig.now c.loop-position.rig c.drop_at.new.rig c.args.modules.now c.loop-position.modules (IsBeforeOrWithout P region u start) (IsBeforeOrLost region u c.loop-position.position L) before.writes before.together.dimms
+    pass-on before.pass
     (turn-state P can.together.disjoint region can.region_in u start (all-bounded c.args.modules.now can.together.in_use) can.whole can.stale L (all-bounded c.loop-position.modules before.together.together.in_use) c.loop-position.position lt before.dropped)
-    before.any_moment before.stands c.drop_at.ensures.any_moment
+    c.in-Err.ensures.pass
+
+pub returns-in-Err-clause-together : goal.returns-in-Err-clause-together
+returns-in-Err-clause-together g c = stays-on c.loop-position.invariant.together c.drop_at.ensures.together
 
 pub returns-in-Err-clause-failed : goal.returns-in-Err-clause-failed
 returns-in-Err-clause-failed g c =
@@ -85,13 +81,9 @@ loop-position-preserved g c =
       given = given-more P can.together.disjoint region can.region_in position lt c.args.modules.now c.loop-position.modules c.drop_at.new.modules before.together.dimms before.given turn.gives;
       room = room-more region position lt c.args.regions.now c.loop-position.regions c.drop_at.new.regions before.room turn.room;
       together = stays-on before.together turn.together;
-      stands = λ told all. turn.stands (before.writes.says.goes_on.tells ∙ told) (before.stands told all);
-      any_moment = moment-on (handles region) c.args.rig.now c.loop-position.rig c.drop_at.new.rig c.args.modules.now c.loop-position.modules (IsBeforeOrWithout P region u start) (IsBeforeOrLost region u position L) before.writes before.together.dimms
+      pass = pass-on before.pass
           (turn-state P can.together.disjoint region can.region_in u start bounded_start can.whole can.stale L bounded position lt before.dropped)
-          before.any_moment before.stands c.drop_at.ensures.any_moment;
-      writes = writes-on (handles region) c.args.rig.now c.loop-position.rig c.drop_at.new.rig before.writes turn.writes_among;
-      cause = record { faults = turn.cause.faults ∙ before.cause.faults; failed_dimm = turn.cause.failed_dimm ∙ before.cause.failed_dimm };
-      reads = turn.reads ∙ before.reads;
+          turn.pass;
     }
 
 pub returns-clause-dropped : goal.returns-clause-dropped

@@ -1,7 +1,4 @@
 use Rattle.std.proofs.Common.{◌<◌, ℕ, List, Some, length, arith, ◌≡◌, false, refl, sym, ap, subst, ◌∙◌}
-use Rattle.std.specs.List.{All}
-use Rattle.rig_trait.specs.declared.shown.Shown.{Ghosts}
-use Rattle.rig_trait.specs.Frames.{IsTold}
 use Rattle.label_codec.specs.declared.label.Label.{Label}
 use Rattle.label_codec.specs.ModuleLabels.{Labels, first, of_uuid}
 use Rattle.label_table.specs.Belonging.{member_at}
@@ -11,18 +8,15 @@ use Rattle.label_table.proofs.ListTests.{some_is}
 use Rattle.region_map.specs.declared.platform.Platform.{Platform}
 use Rattle.region_map.specs.declared.platform.Region.{Region}
 use Rattle.region_labels.specs.declared.modules.LoadedModule.{LoadedModule}
-use Rattle.region_labels.specs.declared.region.RegionLabels.{RegionLabels}
 use Rattle.region_labels.specs.Fates.{platform_of, with_regions}
 use Rattle.region_labels.specs.Modules.{labels_in}
-use Rattle.region_labels.specs.Regions.{handles}
-use Rattle.module_flips.specs.Stored.{StandsIn}
 use Rattle.namespace_passes.specs.Labels.{needs_healing}
-use Rattle.namespace_passes.specs.Namespaces.{IsAlikeAt, IsTurned, IsWellFrom}
-use Rattle.namespace_passes.specs.Passes.{IsPass}
+use Rattle.namespace_passes.specs.Namespaces.{HasHeal, IsAlikeAt, IsTurned, IsWellFrom}
 use Rattle.namespace_passes.proofs.Bounded.{all-bounded}
-use Rattle.namespace_passes.proofs.HealEnds.{all-alike, all-marks, all-table, some-members}
+use Rattle.namespace_passes.proofs.HealEnds.{all-alike, all-elsewhere, all-heal, all-marks, all-others, all-table, some-members}
 use Rattle.namespace_passes.proofs.HealFlips.{on_ok}
-use Rattle.namespace_passes.proofs.Passing.{can-turn, passed-on, sized-on}
+use Rattle.module_flips.proofs.Passes.{pass-on, sized-on}
+use Rattle.namespace_passes.proofs.Passing.{can-turn, still-on, table-still}
 use Rattle.namespace_passes.proofs.Leading.{leading-first}
 use Rattle.namespace_passes.proofs.heal.heal_labels.Goals as goal
 
@@ -33,12 +27,12 @@ same-leading L region u found leading some is leads = some_is (sym is ∙ sym (l
 
 pub heal_at-requires-clause-turn : goal.heal_at-requires-clause-turn
 heal_at-requires-clause-turn g c =
-    can-turn (handles c.args.region.now) c.args.modules.now c.args.regions.now c.args.rig.now c.heal_others.new.modules c.heal_others.new.regions c.heal_others.new.rig c.args.region.now c.args.uuid.now c.place_at.result.label
-    0 _ c.requires.heal c.in-Ok.ensures.pass (platform_of c.args.regions.now) (labels_in c.args.modules.now) c.in-Ok.ensures.healed (λ first. refl)
+    can-turn c.args.modules.now c.args.regions.now c.heal_others.new.modules c.heal_others.new.regions c.args.region.now c.args.uuid.now c.place_at.result.label
+    0 _ c.requires.heal c.in-Ok.ensures.still (platform_of c.args.regions.now) (labels_in c.args.modules.now) c.in-Ok.ensures.healed (λ first. refl)
 
 pub heal_at-requires-clause-sized : goal.heal_at-requires-clause-sized
 heal_at-requires-clause-sized g c =
-    sized-on (handles c.args.region.now) c.args.modules.now c.args.regions.now c.args.rig.now c.heal_others.new.modules c.heal_others.new.regions c.heal_others.new.rig c.in-Ok.ensures.pass c.requires.sized
+    sized-on c.in-Ok.ensures.pass c.requires.sized
 
 pub returns-in-Ok-clause-healed : goal.returns-in-Ok-clause-healed
 returns-in-Ok-clause-healed g c =
@@ -52,11 +46,11 @@ returns-in-Ok-clause-healed g c =
     let M = labels_in c.heal_at.new.modules in
     let can = c.requires.heal in
     let first = c.in-Ok.ensures in
-    let last = c.heal_at.ensures.pass in
+    let last = c.heal_at.ensures.still in
     let bounded = all-bounded c.heal_at.new.modules last.together.together.in_use in
     let some = some-members region u (labels_in ms) can.whole in
     on_ok c.heal_at.result (λ turned_there.
-    let turned : IsTurned P region u lead 0 L M = subst (λ (Q : Platform). IsTurned Q region u lead 0 L M) (ap with_regions first.pass.together.same_regions) turned_there in
+    let turned : IsTurned P region u lead 0 L M = subst (λ (Q : Platform). IsTurned Q region u lead 0 L M) (ap with_regions first.still.together.same_regions) turned_there in
     record {
       same_table = all-table P can.together.disjoint region can.region_in u lead (labels_in ms) L M bounded _ refl some first.healed turned;
       marks = all-marks P can.together.disjoint region can.region_in u lead (labels_in ms) L M bounded _ refl some first.healed turned;
@@ -64,35 +58,23 @@ returns-in-Ok-clause-healed g c =
           subst (λ (l : Label). EachLabel region u M (λ member label. needs_healing l label ≡ false))
           (same-leading (labels_in ms) region u lead leading some c.place_at.ensures.only.first_is leads)
           (all-alike P can.together.disjoint region can.region_in u lead (labels_in ms) L M bounded _ refl some first.healed turned);
-      same_free = last.same_free ∙ first.pass.same_free;
+      heal = λ leading leads.
+          subst (λ (l : Label). (position : ℕ) → position < length region.members → HasHeal region u l position (labels_in ms) M)
+          (same-leading (labels_in ms) region u lead leading some c.place_at.ensures.only.first_is leads)
+          (all-heal P can.together.disjoint region can.region_in u lead (labels_in ms) L M bounded _ refl some first.healed turned);
+      others = all-others P can.together.disjoint region can.region_in u lead (labels_in ms) L M bounded _ refl some first.healed turned;
+      elsewhere = all-elsewhere P can.together.disjoint region can.region_in u lead (labels_in ms) L M bounded _ refl some first.healed turned;
+      same_free = last.same_free ∙ first.still.same_free;
     })
     c.heal_at.ensures.turned
 
--- both passes together
-two-passes : {R : Type 0} {m : Ghosts R} {hs : List ℕ} {ms ms1 ms2 : List LoadedModule} {rs rs1 rs2 : List RegionLabels} {old mid new : R}
-    → IsPass hs m ms rs old ms1 rs1 mid → (IsTold m old → All (StandsIn (m.areas old)) ms → All (StandsIn (m.areas mid)) ms1) → IsPass hs m ms1 rs1 mid ms2 rs2 new → IsPass hs m ms rs old ms2 rs2 new
-two-passes {R} {m} {hs} {ms} {ms1} {ms2} {rs} {rs1} {rs2} {old} {mid} {new} first stood second = passed-on hs ms rs old ms1 rs1 mid ms2 rs2 new first stood second
+pub returns-in-Ok-clause-still : goal.returns-in-Ok-clause-still
+returns-in-Ok-clause-still g c = still-on c.in-Ok.ensures.still c.heal_at.ensures.still
 
-pub returns-in-Ok-clause-table : goal.returns-in-Ok-clause-table
-returns-in-Ok-clause-table g c = (two-passes c.in-Ok.ensures.pass c.in-Ok.ensures.stands c.heal_at.ensures.pass).same_table
-
-pub returns-in-Ok-clause-together : goal.returns-in-Ok-clause-together
-returns-in-Ok-clause-together g c = (two-passes c.in-Ok.ensures.pass c.in-Ok.ensures.stands c.heal_at.ensures.pass).together
-
-pub returns-in-Ok-clause-any_moment : goal.returns-in-Ok-clause-any_moment
-returns-in-Ok-clause-any_moment g c = (two-passes c.in-Ok.ensures.pass c.in-Ok.ensures.stands c.heal_at.ensures.pass).any_moment
-
-pub returns-in-Ok-clause-writes_among : goal.returns-in-Ok-clause-writes_among
-returns-in-Ok-clause-writes_among g c = (two-passes c.in-Ok.ensures.pass c.in-Ok.ensures.stands c.heal_at.ensures.pass).writes
-
-pub returns-in-Ok-clause-reads : goal.returns-in-Ok-clause-reads
-returns-in-Ok-clause-reads g c = (two-passes c.in-Ok.ensures.pass c.in-Ok.ensures.stands c.heal_at.ensures.pass).reads
-
-pub returns-in-Ok-clause-room : goal.returns-in-Ok-clause-room
-returns-in-Ok-clause-room g c = (two-passes c.in-Ok.ensures.pass c.in-Ok.ensures.stands c.heal_at.ensures.pass).rooms
-
-pub returns-in-Ok-clause-counts : goal.returns-in-Ok-clause-counts
-returns-in-Ok-clause-counts g c = (two-passes c.in-Ok.ensures.pass c.in-Ok.ensures.stands c.heal_at.ensures.pass).same_counts
+pub returns-in-Ok-clause-pass : goal.returns-in-Ok-clause-pass
+returns-in-Ok-clause-pass g c =
+    let first = c.in-Ok.ensures in
+    pass-on first.pass (table-still c.args.modules.now c.args.regions.now c.heal_others.new.modules c.heal_others.new.regions first.still.together first.pass.labels) c.heal_at.ensures.pass
 
 -- where all labels are well as to the leading one, so they are as to the label that was found
 well-found : (L : Labels) (region : Region) (u : List ℕ) (found leading : Label) → 0 < length region.members → first (of_uuid u (L (member_at region 0).handle)) ≡ Some found → leading_label region (labels_with u L) ≡ Some leading

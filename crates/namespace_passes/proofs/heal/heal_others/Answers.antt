@@ -8,27 +8,29 @@ use Rattle.region_labels.specs.Modules.{labels_in}
 use Rattle.region_labels.specs.Regions.{handles}
 use Rattle.namespace_passes.specs.Namespaces.{IsAlikeAt, IsTurned, IsWellFrom}
 use Rattle.namespace_passes.proofs.HealEnds.{healed-all, healed-more, healed-start}
-use Rattle.namespace_passes.proofs.Passing.{can-turn, no-pass, passed-on, sized-on}
+use Rattle.module_flips.specs.Passes.{kept_of}
+use Rattle.module_flips.proofs.Passes.{no-pass, pass-on, sized-on}
+use Rattle.namespace_passes.specs.Passes.{HasTableOf}
+use Rattle.namespace_passes.proofs.Passing.{can-turn, still-kept, still-on, table-still}
 use Rattle.namespace_passes.proofs.heal.heal_others.Goals as goal
 
 pub loop-position-init : goal.loop-position-init
 loop-position-init g c = record {
-  pass = no-pass (handles c.args.region.now) c.args.modules.now c.args.regions.now c.args.rig.now c.requires.heal.together;
+  still = still-kept c.args.modules.now c.args.regions.now c.args.modules.now c.args.regions.now c.requires.heal.together refl refl;
+  pass = no-pass (handles c.args.region.now) (HasTableOf c.args.modules.now c.args.regions.now) (kept_of c.args.modules.now c.args.regions.now) c.args.rig.now tt refl;
   healed = healed-start (platform_of c.args.regions.now) c.args.region.now c.args.uuid.now c.args.leading.now (labels_in c.args.modules.now) (record { whole = c.requires.heal.whole; writable = c.requires.heal.writable }) c.requires.leads;
-  stands = λ told all. all;
-  cause = record { faults = refl; failed_dimm = refl };
   idle = λ well. (refl, refl);
 }
 
 pub heal_at-requires-clause-turn : goal.heal_at-requires-clause-turn
 heal_at-requires-clause-turn g c =
     let before = c.loop-position.invariant in
-    can-turn (handles c.args.region.now) c.args.modules.now c.args.regions.now c.args.rig.now c.loop-position.modules c.loop-position.regions c.loop-position.rig c.args.region.now c.args.uuid.now c.args.leading.now
-    c.loop-position.position c.loop-position.position c.requires.heal before.pass (platform_of c.args.regions.now) (labels_in c.args.modules.now) before.healed (λ first. absurd (omega (arith, first, c.loop-position.auto.position)))
+    can-turn c.args.modules.now c.args.regions.now c.loop-position.modules c.loop-position.regions c.args.region.now c.args.uuid.now c.args.leading.now
+    c.loop-position.position c.loop-position.position c.requires.heal before.still (platform_of c.args.regions.now) (labels_in c.args.modules.now) before.healed (λ first. absurd (omega (arith, first, c.loop-position.auto.position)))
 
 pub heal_at-requires-clause-sized : goal.heal_at-requires-clause-sized
 heal_at-requires-clause-sized g c =
-    sized-on (handles c.args.region.now) c.args.modules.now c.args.regions.now c.args.rig.now c.loop-position.modules c.loop-position.regions c.loop-position.rig c.loop-position.invariant.pass c.requires.sized
+    sized-on c.loop-position.invariant.pass c.requires.sized
 
 -- no turn flips a label that is well
 idle-on : {R : Type 0} {old mid new : R} {was between now : List LoadedModule} (region : Region) (u : List ℕ) (lead : Label) (position : ℕ) → 1 ≤ position → position < length region.members
@@ -46,11 +48,13 @@ returns-in-Err-clause-idle g c =
     let lt : c.loop-position.position < length c.args.region.now.members = omega (arith, len, c.loop-position-test.true) in
     idle-on c.args.region.now c.args.uuid.now c.args.leading.now c.loop-position.position c.loop-position.auto.position lt c.loop-position.invariant.idle c.heal_at.ensures.idle
 
+pub returns-in-Err-clause-still : goal.returns-in-Err-clause-still
+returns-in-Err-clause-still g c = still-on c.loop-position.invariant.still c.heal_at.ensures.still
+
 pub returns-in-Err-clause-pass : goal.returns-in-Err-clause-pass
 returns-in-Err-clause-pass g c =
     let before = c.loop-position.invariant in
-    passed-on (handles c.args.region.now) c.args.modules.now c.args.regions.now c.args.rig.now c.loop-position.modules c.loop-position.regions c.loop-position.rig c.heal_at.new.modules c.heal_at.new.regions c.heal_at.new.rig
-    before.pass before.stands c.heal_at.ensures.pass
+    pass-on before.pass (table-still c.args.modules.now c.args.regions.now c.loop-position.modules c.loop-position.regions before.still.together before.pass.labels) c.in-Err.ensures.pass
 
 pub loop-position-preserved : goal.loop-position-preserved
 loop-position-preserved g c =
@@ -62,14 +66,12 @@ loop-position-preserved g c =
     let len : c.len-position-end.result ≡ length c.args.region.now.members = c.len-position-end.ensures in
     let lt : c.loop-position.position < length c.args.region.now.members = omega (arith, len, c.loop-position-test.true) in
     let turned : IsTurned (platform_of c.args.regions.now) c.args.region.now c.args.uuid.now c.args.leading.now c.loop-position.position L M =
-    subst (λ (P : Platform). IsTurned P c.args.region.now c.args.uuid.now c.args.leading.now c.loop-position.position L M) (ap with_regions before.pass.together.same_regions) turn.turned in
+    subst (λ (P : Platform). IsTurned P c.args.region.now c.args.uuid.now c.args.leading.now c.loop-position.position L M) (ap with_regions before.still.together.same_regions) turn.turned in
     record {
-      pass = passed-on (handles c.args.region.now) c.args.modules.now c.args.regions.now c.args.rig.now c.loop-position.modules c.loop-position.regions c.loop-position.rig c.heal_at.new.modules c.heal_at.new.regions c.heal_at.new.rig
-          before.pass before.stands c.heal_at.ensures.pass;
+      still = still-on before.still turn.still;
+      pass = pass-on before.pass (table-still c.args.modules.now c.args.regions.now c.loop-position.modules c.loop-position.regions before.still.together before.pass.labels) turn.pass;
       healed = healed-more (platform_of c.args.regions.now) c.requires.heal.together.disjoint c.args.region.now c.requires.heal.region_in c.args.uuid.now c.args.leading.now (labels_in c.args.modules.now) L M
           c.loop-position.position some lt before.healed turned;
-      stands = λ told all. turn.stands (before.pass.writes.says.goes_on.tells ∙ told) (before.stands told all);
-      cause = record { faults = turn.cause.faults ∙ before.cause.faults; failed_dimm = turn.cause.failed_dimm ∙ before.cause.failed_dimm };
       idle = idle-on c.args.region.now c.args.uuid.now c.args.leading.now c.loop-position.position c.loop-position.auto.position lt before.idle turn.idle;
     }
 

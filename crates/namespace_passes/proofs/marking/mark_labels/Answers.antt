@@ -6,28 +6,30 @@ use Rattle.region_labels.specs.Fates.{platform_of, with_regions}
 use Rattle.region_labels.specs.Modules.{labels_in}
 use Rattle.region_labels.specs.Regions.{handles}
 use Rattle.namespace_passes.proofs.Bounded.{all-bounded}
-use Rattle.namespace_passes.proofs.Passing.{can-still, no-pass, passed-on, sized-on}
+use Rattle.module_flips.specs.Passes.{kept_of}
+use Rattle.module_flips.proofs.Passes.{no-pass, pass-on, sized-on}
+use Rattle.namespace_passes.specs.Passes.{HasTableOf}
+use Rattle.namespace_passes.proofs.Passing.{can-still, still-kept, still-on, table-still}
 use Rattle.namespace_passes.specs.Marking.{AreUpdating, IsMarkedAt, IsUpdatingAt}
 use Rattle.namespace_passes.proofs.MarkEnds.{all-marked, all-marks, all-stale, marked-more, marked-start}
 use Rattle.namespace_passes.proofs.marking.mark_labels.Goals as goal
 
 pub loop-position-init : goal.loop-position-init
 loop-position-init g c = record {
-  pass = no-pass (handles c.args.region.now) c.args.modules.now c.args.regions.now c.args.rig.now c.requires.can.together;
+  still = still-kept c.args.modules.now c.args.regions.now c.args.modules.now c.args.regions.now c.requires.can.together refl refl;
+  pass = no-pass (handles c.args.region.now) (HasTableOf c.args.modules.now c.args.regions.now) (kept_of c.args.modules.now c.args.regions.now) c.args.rig.now tt refl;
   marked = marked-start (platform_of c.args.regions.now) c.args.region.now c.args.uuid.now (labels_in c.args.modules.now) (record { whole = c.requires.can.whole; writable = c.requires.can.writable });
-  stands = λ told all. all;
-  cause = record { faults = refl; failed_dimm = refl };
   idle = λ updating. (refl, refl);
 }
 
 pub mark_at-requires-clause-can : goal.mark_at-requires-clause-can
 mark_at-requires-clause-can g c =
     let before = c.loop-position.invariant in
-    can-still c.args.modules.now c.args.regions.now c.loop-position.modules c.loop-position.regions c.args.region.now c.args.uuid.now c.requires.can before.pass.together before.pass.same_free before.marked.stands
+    can-still c.args.modules.now c.args.regions.now c.loop-position.modules c.loop-position.regions c.args.region.now c.args.uuid.now c.requires.can before.still.together before.still.same_free before.marked.stands
 
 pub mark_at-requires-clause-sized : goal.mark_at-requires-clause-sized
 mark_at-requires-clause-sized g c =
-    sized-on (handles c.args.region.now) c.args.modules.now c.args.regions.now c.args.rig.now c.loop-position.modules c.loop-position.regions c.loop-position.rig c.loop-position.invariant.pass c.requires.sized
+    sized-on c.loop-position.invariant.pass c.requires.sized
 
 -- no turn flips a label that is marked
 idle-on : {R : Type 0} {old mid new : R} {was between now : List LoadedModule} (region : Region) (u : List ℕ) (position : ℕ) → position < length region.members
@@ -48,27 +50,21 @@ loop-position-preserved g c =
     let len : c.len-position-end.result ≡ length c.args.region.now.members = c.len-position-end.ensures in
     let lt : c.loop-position.position < length c.args.region.now.members = omega (arith, len, c.loop-position-test.true) in
     let marked : IsMarkedAt (platform_of c.args.regions.now) c.args.region.now c.args.uuid.now c.loop-position.position L M =
-    subst (λ (P : Platform). IsMarkedAt P c.args.region.now c.args.uuid.now c.loop-position.position L M) (ap with_regions before.pass.together.same_regions) turn.marked in
+    subst (λ (P : Platform). IsMarkedAt P c.args.region.now c.args.uuid.now c.loop-position.position L M) (ap with_regions before.still.together.same_regions) turn.marked in
     record {
-      pass = passed-on (handles c.args.region.now) c.args.modules.now c.args.regions.now c.args.rig.now c.loop-position.modules c.loop-position.regions c.loop-position.rig c.mark_at.new.modules c.mark_at.new.regions c.mark_at.new.rig
-          before.pass before.stands c.mark_at.ensures.pass;
+      still = still-on before.still turn.still;
+      pass = pass-on before.pass (table-still c.args.modules.now c.args.regions.now c.loop-position.modules c.loop-position.regions before.still.together before.pass.labels) turn.pass;
       marked = marked-more (platform_of c.args.regions.now) c.requires.can.together.disjoint c.args.region.now c.requires.can.region_in c.args.uuid.now (labels_in c.args.modules.now) L M c.loop-position.position lt before.marked marked;
-      stands = λ told all. turn.stands (before.pass.writes.says.goes_on.tells ∙ told) (before.stands told all);
-      cause = record { faults = turn.cause.faults ∙ before.cause.faults; failed_dimm = turn.cause.failed_dimm ∙ before.cause.failed_dimm };
       idle = idle-on c.args.region.now c.args.uuid.now c.loop-position.position lt before.idle turn.idle;
     }
 
-pub returns-in-Err-clause-any_moment : goal.returns-in-Err-clause-any_moment
-returns-in-Err-clause-any_moment g c =
-    let before = c.loop-position.invariant in
-    (passed-on (handles c.args.region.now) c.args.modules.now c.args.regions.now c.args.rig.now c.loop-position.modules c.loop-position.regions c.loop-position.rig c.mark_at.new.modules c.mark_at.new.regions c.mark_at.new.rig
-    before.pass before.stands c.mark_at.ensures.pass).any_moment
+pub returns-in-Err-clause-still : goal.returns-in-Err-clause-still
+returns-in-Err-clause-still g c = still-on c.loop-position.invariant.still c.mark_at.ensures.still
 
-pub returns-in-Err-clause-room : goal.returns-in-Err-clause-room
-returns-in-Err-clause-room g c =
+pub returns-in-Err-clause-pass : goal.returns-in-Err-clause-pass
+returns-in-Err-clause-pass g c =
     let before = c.loop-position.invariant in
-    (passed-on (handles c.args.region.now) c.args.modules.now c.args.regions.now c.args.rig.now c.loop-position.modules c.loop-position.regions c.loop-position.rig c.mark_at.new.modules c.mark_at.new.regions c.mark_at.new.rig
-    before.pass before.stands c.mark_at.ensures.pass).rooms
+    pass-on before.pass (table-still c.args.modules.now c.args.regions.now c.loop-position.modules c.loop-position.regions before.still.together before.pass.labels) c.in-Err.ensures.pass
 
 pub returns-clause-marked : goal.returns-clause-marked
 returns-clause-marked g c =
@@ -77,10 +73,10 @@ returns-clause-marked g c =
     let u = c.args.uuid.now in
     let start = labels_in c.args.modules.now in
     let M = labels_in c.loop-position.modules in
-    let pass = c.loop-position.invariant.pass in
+    let still = c.loop-position.invariant.still in
     let to = c.loop-position.invariant.marked in
     let disjoint = c.requires.can.together.disjoint in
-    let bounded = all-bounded c.loop-position.modules pass.together.together.in_use in
+    let bounded = all-bounded c.loop-position.modules still.together.together.in_use in
     let end = c.loop-position.position in
     let all : length region.members ≤ end = omega (arith, c.loop-position-test.false) in
     record {
@@ -91,5 +87,5 @@ returns-clause-marked g c =
       stale = all-stale P disjoint region c.requires.can.region_in u start M bounded end all to;
       others = to.others;
       elsewhere = to.elsewhere;
-      same_free = pass.same_free;
+      same_free = still.same_free;
     }

@@ -15,8 +15,8 @@ use Rattle.module_flips.specs.Together.{StaysTogether, free_slots}
 use Rattle.namespace_passes.specs.declared.places.LabelPlace.{LabelPlace}
 use Rattle.namespace_passes.specs.Healing.{CanHeal, StandsAt}
 use Rattle.namespace_passes.proofs.HealEnds.{some-members}
-use Rattle.namespace_passes.proofs.HealFlips.{flip-cause, flip-moment, flip-still, flip-writes, no_module, on_ok, replaced-there}
-use Rattle.namespace_passes.proofs.Passing.{IsStill}
+use Rattle.namespace_passes.proofs.HealFlips.{flip-pass, flip-still, no_module, on_ok, replaced-there}
+use Rattle.namespace_passes.specs.Passes.{IsStill}
 use Rattle.namespace_passes.specs.Renaming.{HasName, IsBeforeOrRenamed}
 use Rattle.namespace_passes.proofs.MarkFlips.{rename-turn}
 use Rattle.namespace_passes.proofs.renaming.change_first.Goals as goal
@@ -51,8 +51,13 @@ returns-clause-renamed g c =
     })
     (did.labels no_module)
 
-pub returns-clause-any_moment : goal.returns-clause-any_moment
-returns-clause-any_moment g c = λ told all.
+pub returns-clause-still : goal.returns-clause-still
+returns-clause-still g c =
+    let did = c.put_at.ensures in
+    still c.put_at.result c.renamed_label-renamed.result c.requires.can c.place_at-own.ensures did.slot_within did.slot_free did.put did.together did.free_slots (did.regions no_module) did.kept did.kept_regions
+
+pub returns-clause-pass : goal.returns-clause-pass
+returns-clause-pass g c =
     let ms = c.args.modules.now in
     let rs = c.args.regions.now in
     let region = c.args.region.now in
@@ -61,25 +66,5 @@ returns-clause-any_moment g c = λ told all.
     let label = c.renamed_label-renamed.result in
     let did = c.put_at.ensures in
     let has_name = rename-turn ms rs region u 0 (some c.requires.can) c.requires.can c.place_at-own.result c.place_at-own.ensures label did.slot_within did.slot_free name c.renamed_label-renamed.ensures refl no_module in
-    flip-moment ms rs region u 0 (some c.requires.can) c.requires.can c.place_at-own.result c.place_at-own.ensures label did.slot_within did.slot_free
-    g.R.Shown c.args.rig.now c.put_at.new.rig (IsBeforeOrRenamed (platform_of rs) region u name (labels_in ms)) (inl refl) (inr has_name.state_is) (did.any_moment no_module told all)
-
-pub returns-clause-writes_among : goal.returns-clause-writes_among
-returns-clause-writes_among g c =
-    flip-writes c.args.modules.now c.args.regions.now c.args.region.now c.args.uuid.now 0 (some c.requires.can) c.requires.can c.place_at-own.result c.place_at-own.ensures
-    g.R.Shown c.args.rig.now c.put_at.new.rig c.put_at.ensures.writes_only
-
-pub returns-clause-cause : goal.returns-clause-cause
-returns-clause-cause g c =
-    flip-cause c.args.modules.now c.args.regions.now c.args.region.now c.args.uuid.now 0 (some c.requires.can) c.requires.can c.place_at-own.result c.place_at-own.ensures
-    g.R.Shown c.args.rig.now c.put_at.new.rig c.put_at.result c.put_at.ensures.cause c.put_at.ensures.names
-
-pub returns-clause-room : goal.returns-clause-room
-returns-clause-room g c =
-    let did = c.put_at.ensures in
-    (still c.put_at.result c.renamed_label-renamed.result c.requires.can c.place_at-own.ensures did.slot_within did.slot_free did.put did.together did.free_slots (did.regions no_module) did.kept did.kept_regions).rooms
-
-pub returns-clause-counts : goal.returns-clause-counts
-returns-clause-counts g c =
-    let did = c.put_at.ensures in
-    (still c.put_at.result c.renamed_label-renamed.result c.requires.can c.place_at-own.ensures did.slot_within did.slot_free did.put did.together did.free_slots (did.regions no_module) did.kept did.kept_regions).same_counts
+    flip-pass ms rs region u 0 (some c.requires.can) c.requires.can c.place_at-own.result c.place_at-own.ensures label did.slot_within did.slot_free
+    (IsBeforeOrRenamed (platform_of rs) region u name (labels_in ms)) (inl refl) (inr has_name.state_is) (did.pass no_module)

@@ -5,8 +5,10 @@ use Rattle.region_map.specs.declared.platform.Member.{Member}
 use Rattle.region_map.specs.declared.platform.Region.{Region}
 use Rattle.region_labels.specs.Regions.{handles}
 use Rattle.label_table.specs.Belonging.{no_member}
+use Rattle.label_table.specs.Tables.{State}
+use Rattle.module_flips.proofs.Passes.{pass-as, pass-within}
 use Rattle.label_sets.specs.Sets.{labels_in}
-use Rattle.recovery.proofs.Swept.{member-known, member-ready, swept-cause, swept-step}
+use Rattle.recovery.proofs.Swept.{member-known, member-ready}
 use Rattle.recovery.proofs.sweeps.sweep_member.Goals as goal
 
 -- the handle that is read is that of the member
@@ -21,12 +23,7 @@ sweep-requires-clause-ready g c =
     subst (λ h. is_ready (labels_in c.args.sets.now h).kind ≡ true) (sym (there c.args.found.now.members c.as_slice.result.now c.args.position c.as_slice.ensures))
     (member-ready (labels_in c.args.sets.now) c.args.found.now c.args.position c.requires.ready c.requires.within)
 
-pub returns-clause-step : goal.returns-clause-step
-returns-clause-step g c =
-    let did = c.sweep.ensures in
-    swept-step (handles c.args.found.now) (get_or c.as_slice.result.now c.args.position no_member).handle (known-there c.args.found.now c.as_slice.result.now c.args.position c.as_slice.ensures c.requires.within) c.args.sets.now c.sweep.new.self
-    did.state did.regions did.room did.dimms did.sizes did.any_moment did.writes_only did.reads
-
-pub returns-clause-cause : goal.returns-clause-cause
-returns-clause-cause g c =
-    swept-cause (handles c.args.found.now) (get_or c.as_slice.result.now c.args.position no_member).handle (known-there c.args.found.now c.as_slice.result.now c.args.position c.as_slice.ensures c.requires.within) c.sweep.result c.sweep.ensures.cause c.sweep.ensures.names
+pub returns-clause-pass : goal.returns-clause-pass
+returns-clause-pass g c =
+    pass-within (handles c.args.found.now) (known-there c.args.found.now c.as_slice.result.now c.args.position c.as_slice.ensures c.requires.within)
+    (pass-as (λ labels same. ap (λ (t : State). t.table) same) c.sweep.ensures.pass)

@@ -1,21 +1,26 @@
-use Rattle.std.proofs.Common.{◌≡◌, List, map, sym, ap, subst, ◌∙◌}
-use Rattle.std.specs.List.{All}
+use Rattle.std.proofs.Common.{◌≡◌, List, Some, map, sym, ap, subst, ◌∙◌}
 use Rattle.std.specs.Option.{option_copied}
 use Rattle.std.specs.Result.{OnOk}
-use Rattle.rig_trait.specs.Frames.{LeavesOnly}
-use Rattle.label_table.specs.Tables.{table}
+use Rattle.std.proofs.lemmas.Option.{same_Some}
+use Rattle.std.proofs.lemmas.Result.{on_ok_weaker}
+use Rattle.region_map.specs.declared.platform.Region.{Region}
+use Rattle.region_map.specs.Platforms.{region_at}
+use Rattle.label_table.specs.Wholes.{labels_with, leading_label}
 use Rattle.region_labels.specs.declared.region.RegionLabels.{RegionLabels}
 use Rattle.region_labels.specs.Fates.{region_in}
-use Rattle.region_labels.specs.Modules.{dimm_of}
-use Rattle.module_flips.specs.Stops.{LeftIn}
-use Rattle.module_flips.specs.Stored.{StandsIn}
-use Rattle.label_sets.specs.Healing.{CanHealIn}
+use Rattle.region_labels.specs.Modules.{labels_in}
+use Rattle.region_labels.specs.Regions.{handles}
+use Rattle.module_flips.specs.Passes.{IsPass, kept_of}
+use Rattle.namespace_passes.specs.Healing.{IsHealed}
+use Rattle.namespace_passes.specs.Namespaces.{IsWellFrom}
+use Rattle.namespace_passes.specs.Passes.{HasTableOf}
+use Rattle.label_sets.specs.Healing.{CanHealIn, IsHealedIn}
 use Rattle.label_sets.specs.Kept.{IsKnownReady, shown}
-use Rattle.label_sets.specs.Sets.{StoredSets, platform_in, state_in}
+use Rattle.label_sets.specs.Sets.{IsTableOf, StoredSets, platform_in}
 use Rattle.label_sets.specs.Staging.{OfRegion}
 use Rattle.label_sets.specs.Views.{IsPlaceOf}
 use Rattle.label_sets.proofs.KnownReady.{ready-healed}
-use Rattle.label_sets.proofs.Passes.{can-heal, free-after, ready-after, room-after, seen, still-kept}
+use Rattle.label_sets.proofs.Passes.{can-heal, found-there, free-after, healed-in, pass-seen, ready-after, room-after, seen, still-kept}
 use Rattle.label_sets.proofs.sets.Sets.clear_all.Goals as goal
 
 pub heal_labels-requires-clause-heal : goal.heal_labels-requires-clause-heal
@@ -40,24 +45,55 @@ invariant_of-self g c =
     ready-healed (shown inside) c.args.region c.args.uuid.now place
     (subst (λ (ys : List RegionLabels). IsPlaceOf (map region_in ys) c.args.region place) c.deref.ensures.value c.place_of-self-inside.ensures)
     (subst (λ (s : StoredSets). OfRegion s c.args.region (CanHealIn s c.args.uuid.now)) (sym c.self.view_is) c.requires.heal) in
-    still-kept inside kept ms rs m n now regions did.together inside.free place inside.room
-    (free-after inside kept ms rs m n now regions did.together did.table)
-    (ready-after inside kept ms rs m n now regions did.together place known did.table)
-    (room-after inside kept ms rs m n now regions did.together did.room did.counts)
+    still-kept inside kept ms rs m n now regions did.still.together inside.free place inside.room
+    (free-after inside kept ms rs m n now regions did.still.together did.pass.labels)
+    (ready-after inside kept ms rs m n now regions did.still.together place known did.pass.labels)
+    (room-after inside kept ms rs m n now regions did.still.together did.still.rooms did.still.same_counts)
 
-pub returns-clause-stands : goal.returns-clause-stands
-returns-clause-stands g c = λ told.
-    let old = g.R.Shown.areas c.args.rig.now in
-    let new = g.R.Shown.areas c.heal_labels.new.rig in
-    seen c.self.inside c.self.invariant c.deref_mut.result.now c.deref_mut-in-Some.result.now c.deref_mut.ensures.value c.deref_mut-in-Some.ensures.value c.heal_labels.new.modules c.heal_labels.new.regions c.heal_labels.ensures.together
-    c.args.self.now c.self.view_is (λ before after. All (StandsIn old) before.modules → OnOk c.heal_labels.result (All (StandsIn new) after.modules)) c.self.inside.room
-    (c.heal_labels.ensures.stands told)
+pub returns-clause-pass : goal.returns-clause-pass
+returns-clause-pass g c = λ region found.
+    let inside = c.self.inside in
+    let ms = c.deref_mut.result.now in
+    let rs = c.deref_mut-in-Some.result.now in
+    let now = c.heal_labels.new.modules in
+    let regions = c.heal_labels.new.regions in
+    let r = c.in-Some.found.now in
+    let there : region_at (platform_in c.args.self.now) c.args.region ≡ Some r =
+    found-there c.args.platform.now inside c.self.invariant c.args.self.now c.self.view_is c.requires.platform c.args.region r (sym c.region.ensures ∙ ap option_copied c.in-Some.is)
+    ms rs c.deref_mut.ensures.value c.deref_mut-in-Some.ensures.value in
+    let same : r ≡ region = same_Some r region (sym there ∙ found) in
+    pass-seen inside c.args.self.now c.self.view_is ms rs c.deref_mut.ensures.value c.deref_mut-in-Some.ensures.value now regions
+    (λ sets. IsTableOf sets)
+    (subst (λ (q : Region). IsPass (handles q) (HasTableOf ms rs) g.R.Shown (kept_of ms rs) c.args.rig.now (kept_of now regions) c.heal_labels.new.rig c.heal_labels.result) same c.heal_labels.ensures.pass)
 
-pub returns-clause-any_moment : goal.returns-clause-any_moment
-returns-clause-any_moment g c = λ told.
-    let m = g.R.Shown in
-    let old = c.args.rig.now in
-    seen c.self.inside c.self.invariant c.deref_mut.result.now c.deref_mut-in-Some.result.now c.deref_mut.ensures.value c.deref_mut-in-Some.ensures.value c.heal_labels.new.modules c.heal_labels.new.regions c.heal_labels.ensures.together
-    c.args.self.now c.self.view_is (λ before after. All (StandsIn (m.areas old)) before.modules
-    → LeavesOnly m old c.heal_labels.new.rig (LeftIn (map dimm_of before.modules) (m.said old) (λ labels. table (platform_in before) labels ≡ (state_in before).table))) c.self.inside.room
-    (c.heal_labels.ensures.any_moment told)
+pub returns-clause-healed : goal.returns-clause-healed
+returns-clause-healed g c = λ region found.
+    let inside = c.self.inside in
+    let ms = c.deref_mut.result.now in
+    let rs = c.deref_mut-in-Some.result.now in
+    let did = c.heal_labels.ensures in
+    let now = c.heal_labels.new.modules in
+    let r = c.in-Some.found.now in
+    let there : region_at (platform_in c.args.self.now) c.args.region ≡ Some r =
+    found-there c.args.platform.now inside c.self.invariant c.args.self.now c.self.view_is c.requires.platform c.args.region r (sym c.region.ensures ∙ ap option_copied c.in-Some.is)
+    ms rs c.deref_mut.ensures.value c.deref_mut-in-Some.ensures.value in
+    let same : r ≡ region = same_Some r region (sym there ∙ found) in
+    seen inside c.self.invariant ms rs c.deref_mut.ensures.value c.deref_mut-in-Some.ensures.value now c.heal_labels.new.regions did.still.together c.args.self.now c.self.view_is
+    (λ before after. OnOk c.heal_labels.result (IsHealedIn before after c.args.uuid.now region)) inside.room
+    (on_ok_weaker c.heal_labels.result (λ healed. healed-in ms rs region c.args.uuid.now now c.heal_labels.new.regions did.still.together inside.room healed)
+    (subst (λ (q : Region). OnOk c.heal_labels.result (IsHealed ms rs q c.args.uuid.now now)) same did.healed))
+
+pub returns-clause-idle : goal.returns-clause-idle
+returns-clause-idle g c = λ region found leading leads well.
+    let inside = c.self.inside in
+    let ms = c.deref_mut.result.now in
+    let rs = c.deref_mut-in-Some.result.now in
+    let r = c.in-Some.found.now in
+    let there : region_at (platform_in c.args.self.now) c.args.region ≡ Some r =
+    found-there c.args.platform.now inside c.self.invariant c.args.self.now c.self.view_is c.requires.platform c.args.region r (sym c.region.ensures ∙ ap option_copied c.in-Some.is)
+    ms rs c.deref_mut.ensures.value c.deref_mut-in-Some.ensures.value in
+    let same : r ≡ region = same_Some r region (sym there ∙ found) in
+    let modules : c.args.self.now.modules ≡ ms = sym (c.deref_mut.ensures.value ∙ ap (λ (s : StoredSets). s.modules) c.self.view_is) in
+    c.heal_labels.ensures.idle leading
+    (subst (λ (q : Region). leading_label q (labels_with c.args.uuid.now (labels_in ms)) ≡ Some leading) (sym same) (subst (λ xs. leading_label region (labels_with c.args.uuid.now (labels_in xs)) ≡ Some leading) modules leads))
+    (subst (λ (q : Region). IsWellFrom 0 (labels_in ms) q c.args.uuid.now leading) (sym same) (subst (λ xs. IsWellFrom 0 (labels_in xs) region c.args.uuid.now leading) modules well))

@@ -1,5 +1,4 @@
 use Rattle.std.proofs.Common.{◌≡◌, List, map, Some, false, refl, sym, ap, subst, ◌∙◌}
-use Rattle.std.specs.List.{All}
 use Rattle.std.specs.Option.{option_copied}
 use Rattle.std.specs.Result.{OnOk}
 use Rattle.std.proofs.lemmas.Bool.{false≢true}
@@ -8,12 +7,15 @@ use Rattle.std.proofs.lemmas.Result.{on_ok_weaker}
 use Rattle.region_map.specs.declared.platform.Region.{Region}
 use Rattle.region_map.specs.Platforms.{region_at}
 use Rattle.region_labels.specs.Fates.{platform_of, region_in, with_regions}
-use Rattle.module_flips.specs.Stored.{StandsIn}
-use Rattle.namespace_passes.specs.Dropping.{IsDropped}
+use Rattle.region_labels.specs.Modules.{labels_in}
+use Rattle.region_labels.specs.Regions.{handles}
+use Rattle.module_flips.specs.Passes.{IsPass, kept_of}
+use Rattle.namespace_passes.specs.Dropping.{IsBeforeOrWithout, IsDropped}
 use Rattle.label_sets.specs.Dropping.{CanDropAt, GainsSlots, HasNoneIn}
 use Rattle.label_sets.specs.Sets.{StoredSets, platform_in}
+use Rattle.label_sets.specs.Sets as stored
 use Rattle.label_sets.specs.Views.{IsPlaceOf}
-use Rattle.label_sets.proofs.Passes.{can-drop, found-there, ready-after-drop, seen, still-kept}
+use Rattle.label_sets.proofs.Passes.{can-drop, found-there, pass-seen, ready-after-drop, seen, still-kept}
 use Rattle.label_sets.proofs.Stageable.{place-is, place-ordered, place-within}
 use Rattle.label_sets.proofs.sets.Sets.drop_all.Goals as goal
 
@@ -56,16 +58,24 @@ invariant_of-self g c =
     let regions = c.drop_in.new.regions in
     let can = can-drop c.args.platform.now inside kept c.args.self.now c.self.view_is c.requires.platform c.args.region r (sym c.region.ensures ∙ ap option_copied c.in-Some-Some.is-0) ms rs m n c.args.uuid.now c.requires.drop in
     still-kept inside kept ms rs m n now regions did.together c.drop_in.new.free inside.ready false did.free
-    (ready-after-drop inside kept ms rs m n now regions did.together r can.region_in c.args.uuid.now did.either)
+    (ready-after-drop inside kept ms rs m n now regions did.together r can.region_in c.args.uuid.now did.pass.labels)
     (λ e. absurd (false≢true e))
 
-pub returns-clause-stands : goal.returns-clause-stands
-returns-clause-stands g c = λ told.
-    let old = g.R.Shown.areas c.args.rig.now in
-    let new = g.R.Shown.areas c.drop_in.new.rig in
-    seen c.self.inside c.self.invariant c.deref_mut.result.now c.deref_mut-2.result.now c.deref_mut.ensures.value c.deref_mut-2.ensures.value c.drop_in.new.modules c.drop_in.new.regions c.drop_in.ensures.together
-    c.args.self.now c.self.view_is (λ before after. All (StandsIn old) before.modules → OnOk c.drop_in.result (All (StandsIn new) after.modules)) false
-    (c.drop_in.ensures.stands told)
+pub returns-clause-pass : goal.returns-clause-pass
+returns-clause-pass g c = λ region found.
+    let inside = c.self.inside in
+    let ms = c.deref_mut.result.now in
+    let rs = c.deref_mut-2.result.now in
+    let now = c.drop_in.new.modules in
+    let regions = c.drop_in.new.regions in
+    let r = c.in-Some-Some.found.now in
+    let there : region_at (platform_in c.args.self.now) c.args.region ≡ Some r =
+    found-there c.args.platform.now inside c.self.invariant c.args.self.now c.self.view_is c.requires.platform c.args.region r (sym c.region.ensures ∙ ap option_copied c.in-Some-Some.is-0)
+    ms rs c.deref_mut.ensures.value c.deref_mut-2.ensures.value in
+    let same : r ≡ region = same_Some r region (sym there ∙ found) in
+    pass-seen inside c.args.self.now c.self.view_is ms rs c.deref_mut.ensures.value c.deref_mut-2.ensures.value now regions
+    (λ sets. IsBeforeOrWithout (platform_in sets) region c.args.uuid.now (stored.labels_in sets))
+    (subst (λ (q : Region). IsPass (handles q) (IsBeforeOrWithout (platform_of rs) q c.args.uuid.now (labels_in ms)) g.R.Shown (kept_of ms rs) c.args.rig.now (kept_of now regions) c.drop_in.new.rig c.drop_in.result) same c.drop_in.ensures.pass)
 
 pub returns-clause-none : goal.returns-clause-none
 returns-clause-none g c = λ region found.

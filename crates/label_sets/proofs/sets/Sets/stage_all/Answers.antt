@@ -1,18 +1,24 @@
 use Rattle.std.proofs.Common.{◌≡◌, List, map, Some, sym, ap, subst, ◌∙◌}
-use Rattle.std.specs.List.{All}
 use Rattle.std.specs.Option.{option_copied}
 use Rattle.std.specs.Result.{OnOk}
+use Rattle.std.proofs.lemmas.Option.{same_Some}
 use Rattle.std.specs.Vec.{with_items}
 use Rattle.region_map.specs.declared.platform.Region.{Region}
 use Rattle.region_map.specs.Platforms.{region_at}
+use Rattle.region_labels.specs.declared.modules.LoadedModule.{LoadedModule}
 use Rattle.region_labels.specs.Fates.{platform_of, region_in, with_regions}
-use Rattle.region_labels.specs.Modules.{dimm_of}
+use Rattle.region_labels.specs.Modules.{dimm_of, labels_in}
 use Rattle.module_flips.specs.Together.{IsTogether}
-use Rattle.module_flips.specs.Stored.{StandsIn}
+use Rattle.region_labels.specs.Regions.{handles}
+use Rattle.module_flips.specs.Passes.{IsPass, kept_of}
+use Rattle.namespace_passes.specs.Staged.{IsBeforeOrWith, new_space}
+use Rattle.namespace_passes.specs.Staging.{AreStaged}
 use Rattle.label_sets.specs.Kept.{IsKnownFree, shown}
 use Rattle.label_sets.specs.Sets.{StoredSets, platform_in}
+use Rattle.label_sets.specs.Sets as stored
 use Rattle.label_sets.specs.Staging.{CanStageAt, CanStageIn}
 use Rattle.label_sets.specs.Views.{IsPlaceOf}
+use Rattle.label_sets.proofs.Passes.{found-there, pass-seen}
 use Rattle.label_sets.proofs.Stageable.{can-stage}
 use Rattle.label_sets.proofs.Written.{back-is, few-still, same-count, slots-still}
 use Rattle.label_sets.proofs.sets.Sets.stage_all.Goals as goal
@@ -64,8 +70,32 @@ invariant_of-self g c =
       room = λ has. absurd cc;
     }
 
-pub returns-clause-stands : goal.returns-clause-stands
-returns-clause-stands g c = λ told all.
-    let ms : c.args.self.now.modules ≡ c.deref_mut.result.now = sym (c.deref_mut.ensures.value ∙ ap (λ (s : StoredSets). s.modules) c.self.view_is) in
-    subst (λ xs. OnOk c.stage_in.result (All (StandsIn (g.R.Shown.areas c.stage_in.new.rig)) xs)) (sym (back-is c.self.inside.modules c.stage_in.new.modules c.deref_mut.result.now c.deref_mut.ensures.value (same-count dimm_of _ _ c.stage_in.ensures.together.dimms)))
-    (c.stage_in.ensures.stands told (subst (All (StandsIn (g.R.Shown.areas c.args.rig.now))) ms all))
+pub returns-clause-pass : goal.returns-clause-pass
+returns-clause-pass g c = λ region found.
+    let inside = c.self.inside in
+    let ms = c.deref_mut.result.now in
+    let rs = c.deref_mut-2.result.now in
+    let now = c.stage_in.new.modules in
+    let regions = c.stage_in.new.regions in
+    let r = c.in-Some-Some.found.now in
+    let there : region_at (platform_in c.args.self.now) c.args.region ≡ Some r =
+    found-there c.args.platform.now inside c.self.invariant c.args.self.now c.self.view_is c.requires.platform c.args.region r (sym c.region.ensures ∙ ap option_copied c.in-Some-Some.is-0)
+    ms rs c.deref_mut.ensures.value c.deref_mut-2.ensures.value in
+    let same : r ≡ region = same_Some r region (sym there ∙ found) in
+    pass-seen inside c.args.self.now c.self.view_is ms rs c.deref_mut.ensures.value c.deref_mut-2.ensures.value now regions
+    (λ sets. IsBeforeOrWith (platform_in sets) region (new_space c.args.space.now) (stored.labels_in sets))
+    (subst (λ (q : Region). IsPass (handles q) (IsBeforeOrWith (platform_of rs) q (new_space c.args.space.now) (labels_in ms)) g.R.Shown (kept_of ms rs) c.args.rig.now (kept_of now regions) c.stage_in.new.rig c.stage_in.result) same c.stage_in.ensures.pass)
+
+pub returns-clause-labels : goal.returns-clause-labels
+returns-clause-labels g c = λ region found.
+    let inside = c.self.inside in
+    let ms = c.deref_mut.result.now in
+    let rs = c.deref_mut-2.result.now in
+    let r = c.in-Some-Some.found.now in
+    let there : region_at (platform_in c.args.self.now) c.args.region ≡ Some r =
+    found-there c.args.platform.now inside c.self.invariant c.args.self.now c.self.view_is c.requires.platform c.args.region r (sym c.region.ensures ∙ ap option_copied c.in-Some-Some.is-0)
+    ms rs c.deref_mut.ensures.value c.deref_mut-2.ensures.value in
+    let same : r ≡ region = same_Some r region (sym there ∙ found) in
+    let back = back-is inside.modules c.stage_in.new.modules ms c.deref_mut.ensures.value (same-count dimm_of _ _ c.stage_in.ensures.together.dimms) in
+    subst (λ (xs : List LoadedModule). OnOk c.stage_in.result (AreStaged region c.args.space.now (labels_in xs))) (sym back)
+    (subst (λ (q : Region). OnOk c.stage_in.result (AreStaged q c.args.space.now (labels_in c.stage_in.new.modules))) same c.stage_in.ensures.labels)

@@ -1,21 +1,25 @@
-use Rattle.std.proofs.Common.{◌≡◌, ◌<◌, true, List, length, refl, sym, ap, subst, ◌∙◌}
-use Rattle.std.specs.List.{All}
+use Rattle.std.proofs.Common.{◌≡◌, ◌<◌, ℕ, List, [], ◌∷◌, Ok, Err, length, get_or, map, refl, sym, ap, subst, ◌∙◌}
 use Rattle.std.specs.Vec.{with_items}
-use Rattle.rig_trait.specs.Frames.{FailsAt, WritesTo}
 use Rattle.region_map.specs.declared.platform.Region.{Region}
-use Rattle.label_table.specs.Tables.{State, table}
+use Rattle.label_table.specs.Tables.{State, state, table}
 use Rattle.region_labels.specs.declared.modules.LoadedModule.{LoadedModule}
-use Rattle.region_labels.specs.Fates.{platform_of, with_regions}
-use Rattle.region_labels.specs.Modules.{dimm_of, labels_in}
+use Rattle.region_labels.specs.declared.region.RegionLabels.{RegionLabels}
+use Rattle.region_labels.specs.Fates.{platform_of, region_in, with_regions}
+use Rattle.region_labels.specs.Modules.{labels_in}
 use Rattle.region_labels.specs.Changes.{dimm_at}
-use Rattle.module_flips.specs.Stored.{StandsIn}
-use Rattle.module_flips.specs.Sweeps.{ChangesOnly, IsSweptTo}
-use Rattle.label_sets.specs.Sets.{StoredSets}
+use Rattle.module_flips.specs.Passes.{IsPass, kept_of}
+use Rattle.module_flips.specs.Sweeps.{ChangesOnly, IsSwept, IsSweptTo}
+use Rattle.module_flips.proofs.Passes.{still-ended}
+use Rattle.label_sets.specs.declared.sets.Sets.TheInside.{Inside}
+use Rattle.label_sets.specs.Kept.{shown}
+use Rattle.label_sets.specs.Sets.{StoredSets, platform_in, state_in}
+use Rattle.label_sets.specs.Sweeps.{IsSweptAt}
 use Rattle.label_sets.proofs.FreeAfter.{known-kept}
+use Rattle.label_sets.proofs.Passes.{pass-seen}
 use Rattle.label_sets.proofs.KnownReady.{ready-kept}
 use Rattle.label_sets.proofs.SpareSlots.{spare-there}
 use Rattle.label_sets.proofs.SweptSets.{kept-still, kept-unchanged, room-left, seat-named, swept-named, written-back}
-use Rattle.label_sets.proofs.Written.{back-is, same-count}
+use Rattle.label_sets.proofs.Written.{back-is}
 use Rattle.label_sets.proofs.sets.Sets.sweep.Goals as goal
 
 pub invariant_of-self : goal.invariant_of-self
@@ -27,20 +31,15 @@ invariant_of-self g c =
     (back-is rs c.sweep_labels.new.regions c.deref_mut-2.result.now c.deref_mut-2.ensures.value (ap length did.kept_regions) ∙ did.kept_regions ∙ c.deref_mut-2.ensures.value) refl refl c.sweep_labels.ensures.slots
     c.sweep_labels.ensures.lost refl
 
-pub returns-in-Err-clause-writes_only : goal.returns-in-Err-clause-writes_only
-returns-in-Err-clause-writes_only g c =
-    subst (λ d. WritesTo d g.R.Shown c.args.rig.now c.sweep_labels.new.rig)
-    (seat-named c.deref_mut.result.now c.deref.result.now c.seat_of-seat.result c.args.dimm (c.deref.ensures.value ∙ sym c.deref_mut.ensures.value) c.seat_of-seat.ensures.within c.seat_of-seat.ensures.dimm) c.sweep_labels.ensures.writes_only
-
-pub returns-in-Err-clause-cause : goal.returns-in-Err-clause-cause
-returns-in-Err-clause-cause g c =
-    subst (λ d. FailsAt d g.R.Shown c.args.rig.now c.sweep_labels.new.rig true)
-    (seat-named c.deref_mut.result.now c.deref.result.now c.seat_of-seat.result c.args.dimm (c.deref.ensures.value ∙ sym c.deref_mut.ensures.value) c.seat_of-seat.ensures.within c.seat_of-seat.ensures.dimm) c.in-Err.ensures.cause
-
-pub returns-in-Err-clause-names : goal.returns-in-Err-clause-names
-returns-in-Err-clause-names g c =
-    c.in-Err.ensures.names
-    ∙ seat-named c.deref_mut.result.now c.deref.result.now c.seat_of-seat.result c.args.dimm (c.deref.ensures.value ∙ sym c.deref_mut.ensures.value) c.seat_of-seat.ensures.within c.seat_of-seat.ensures.dimm
+pub returns-in-Err-clause-pass : goal.returns-in-Err-clause-pass
+returns-in-Err-clause-pass g c =
+    let ms = c.deref_mut.result.now in
+    let rs = c.deref_mut-2.result.now in
+    pass-seen c.self.inside c.args.self.now c.self.view_is ms rs c.deref_mut.ensures.value c.deref_mut-2.ensures.value c.sweep_labels.new.modules c.sweep_labels.new.regions
+    (λ sets. λ labels. state (platform_in sets) labels ≡ state_in sets)
+    (subst (λ d. IsPass (d ∷ []) (λ labels. state (platform_of rs) labels ≡ state (platform_of rs) (labels_in ms)) g.R.Shown (kept_of ms rs) c.args.rig.now (kept_of c.sweep_labels.new.modules c.sweep_labels.new.regions) c.sweep_labels.new.rig (Err c.in-Err.failed))
+    (seat-named c.deref_mut.result.now c.deref.result.now c.seat_of-seat.result c.args.dimm (c.deref.ensures.value ∙ sym c.deref_mut.ensures.value) c.seat_of-seat.ensures.within c.seat_of-seat.ensures.dimm)
+    c.in-Err.ensures.pass)
 
 pub invariant_of-self-2 : goal.invariant_of-self-2
 invariant_of-self-2 g c =
@@ -94,14 +93,31 @@ returns-clause-others g c =
     subst (λ (xs : List LoadedModule). ChangesOnly c.args.dimm xs now) (ap (λ (s : StoredSets). s.modules) c.self.view_is)
     (subst (λ d. ChangesOnly d ms now) (seat-named ms c.deref.result.now seat c.args.dimm c.deref.ensures.value c.seat_of-seat.ensures.within c.seat_of-seat.ensures.dimm) others)
 
-pub returns-clause-stands : goal.returns-clause-stands
-returns-clause-stands g c = λ told all.
-    let ms : c.args.self.now.modules ≡ c.deref_mut.result.now = sym (c.deref_mut.ensures.value ∙ ap (λ (s : StoredSets). s.modules) c.self.view_is) in
-    subst (All (StandsIn (g.R.Shown.areas c.sweep_labels.new.rig)))
-    (sym (back-is c.self.inside.modules c.sweep_labels.new.modules c.deref_mut.result.now c.deref_mut.ensures.value (same-count dimm_of _ _ c.in_default.ensures.swept.together.dimms)))
-    (c.in_default.ensures.stands told (subst (All (StandsIn (g.R.Shown.areas c.args.rig.now))) ms all))
+pub returns-clause-pass : goal.returns-clause-pass
+returns-clause-pass g c =
+    let ms = c.deref_mut.result.now in
+    let rs = c.deref_mut-2.result.now in
+    pass-seen c.self.inside c.args.self.now c.self.view_is ms rs c.deref_mut.ensures.value c.deref_mut-2.ensures.value c.sweep_labels.new.modules c.sweep_labels.new.regions
+    (λ sets. λ labels. state (platform_in sets) labels ≡ state_in sets)
+    (subst (λ d. IsPass (d ∷ []) (λ labels. state (platform_of rs) labels ≡ state (platform_of rs) (labels_in ms)) g.R.Shown (kept_of ms rs) c.args.rig.now (kept_of c.sweep_labels.new.modules c.sweep_labels.new.regions) c.sweep_labels.new.rig (Ok tt))
+    (seat-named c.deref_mut.result.now c.deref.result.now c.seat_of-seat.result c.args.dimm (c.deref.ensures.value ∙ sym c.deref_mut.ensures.value) c.seat_of-seat.ensures.within c.seat_of-seat.ensures.dimm)
+    (still-ended c.in_default.ensures.pass))
 
-pub returns-clause-writes_only : goal.returns-clause-writes_only
-returns-clause-writes_only g c =
-    subst (λ d. WritesTo d g.R.Shown c.args.rig.now c.sweep_labels.new.rig)
-    (seat-named c.deref_mut.result.now c.deref.result.now c.seat_of-seat.result c.args.dimm (c.deref.ensures.value ∙ sym c.deref_mut.ensures.value) c.seat_of-seat.ensures.within c.seat_of-seat.ensures.dimm) c.sweep_labels.ensures.writes_only
+-- a module that is swept is not flipped
+idle-at : {R : Type 0} {old new : R} (inside : Inside) (sets : StoredSets) → shown inside ≡ sets → (ms : List LoadedModule) (rs : List RegionLabels) → ms ≡ inside.modules.items → rs ≡ inside.regions.items → (seat dimm : ℕ) → seat < length ms
+    → ((d : LoadedModule) → (get_or ms seat d).dimm ≡ dimm) → (((d : LoadedModule) → IsSwept (platform_of rs) (labels_in ms) (get_or ms seat d)) → new ≡ old) → IsSweptAt sets dimm → new ≡ old
+idle-at inside sets view ms rs same same_regions seat dimm lt named idle clean =
+    let before : ◌≡◌ {A = StoredSets} (record { regions = map region_in rs; modules = ms; room = inside.room }) sets = (λ i. record { regions = map region_in (same_regions i); modules = same i; room = inside.room }) ∙ view in
+    idle (λ d. subst (λ (s : StoredSets). IsSweptAt s dimm) (sym before) clean seat d lt (named d))
+
+pub returns-clause-idle : goal.returns-clause-idle
+returns-clause-idle g c = idle-at c.self.inside c.args.self.now c.self.view_is c.deref_mut.result.now c.deref_mut-2.result.now c.deref_mut.ensures.value c.deref_mut-2.ensures.value c.seat_of-seat.result c.args.dimm
+    (subst (λ (xs : List LoadedModule). c.seat_of-seat.result < length xs) (c.deref.ensures.value ∙ sym c.deref_mut.ensures.value) c.seat_of-seat.ensures.within)
+    (subst (λ (xs : List LoadedModule). (d : LoadedModule) → (get_or xs c.seat_of-seat.result d).dimm ≡ c.args.dimm) (c.deref.ensures.value ∙ sym c.deref_mut.ensures.value) c.seat_of-seat.ensures.dimm)
+    c.sweep_labels.ensures.idle
+
+pub returns-in-Err-clause-idle : goal.returns-in-Err-clause-idle
+returns-in-Err-clause-idle g c = idle-at c.self.inside c.args.self.now c.self.view_is c.deref_mut.result.now c.deref_mut-2.result.now c.deref_mut.ensures.value c.deref_mut-2.ensures.value c.seat_of-seat.result c.args.dimm
+    (subst (λ (xs : List LoadedModule). c.seat_of-seat.result < length xs) (c.deref.ensures.value ∙ sym c.deref_mut.ensures.value) c.seat_of-seat.ensures.within)
+    (subst (λ (xs : List LoadedModule). (d : LoadedModule) → (get_or xs c.seat_of-seat.result d).dimm ≡ c.args.dimm) (c.deref.ensures.value ∙ sym c.deref_mut.ensures.value) c.seat_of-seat.ensures.dimm)
+    c.sweep_labels.ensures.idle

@@ -5,8 +5,8 @@ use Rattle.label_codec.specs.ModuleLabels.{Module}
 use Rattle.region_map.specs.declared.platform.Region.{Region}
 use Rattle.label_table.specs.Belonging.{member_at}
 use Rattle.region_labels.specs.Modules.{labels_in}
-use Rattle.namespace_passes.proofs.DropSeats.{is-over, is-position, not-nowhere, not-repeated, stands-at}
-use Rattle.namespace_passes.proofs.drop_places.place_of.Goals as goal
+use Rattle.namespace_passes.proofs.Seats.{is-over, is-position, not-nowhere, not-repeated, stands-at}
+use Rattle.namespace_passes.proofs.places.place_of.Goals as goal
 
 pub unreachable-requires : goal.unreachable-requires
 unreachable-requires c =
