@@ -14,5 +14,4 @@ pub fn one_run<R: Rig>(rig: &R, session: &Session)
     ensures { (run : Run) (k : ℕ) (one other : Progress) → IsSound run.platform
         → IsCurrent R.Shown rig.now session.now → IsBehind (IsCurrent R.Shown rig.now session.now) run k one
         → IsBehind (IsCurrent R.Shown rig.now session.now) run k other → one ≡ other }
-{
-}
+{}

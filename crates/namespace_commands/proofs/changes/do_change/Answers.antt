@@ -31,21 +31,7 @@ returns-in-Create-clause-done g c =
       abstraction = m.abstraction;
       sector = m.sector;
       uuid = uuid;
-    })) g.R.Shown c.args.sets.now c.args.rig.now c.create.new.sets c.create.new.rig c.create.result) uuid_is (record {
-      step = c.create.ensures.step;
-      refused = c.create.ensures.refused;
-      unwritten = c.create.ensures.unwritten;
-      memory = c.create.ensures.memory;
-      unwritten_memory = c.create.ensures.unwritten_memory;
-      regions = c.create.ensures.regions;
-      dimms = c.create.ensures.dimms;
-      sizes = c.create.ensures.sizes;
-      stands = c.create.ensures.stands;
-      any_moment = c.create.ensures.any_moment;
-      writes_among = c.create.ensures.writes_among;
-      cause = c.create.ensures.cause;
-      reads = c.create.ensures.reads;
-    }))
+    })) g.R.Shown c.args.sets.now c.args.rig.now c.create.new.sets c.create.new.rig c.create.result) uuid_is c.create.ensures)
 
 pub returns-in-Create-clause-among : goal.returns-in-Create-clause-among
 returns-in-Create-clause-among g c =
