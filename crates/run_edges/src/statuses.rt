@@ -1,7 +1,7 @@
 //! The statuses of runs.
 
 ghost use Rattle.std.specs.Prelude.{◌≡◌};
-ghost use Rattle.nd_top.specs.Statuses.{code_of};
+ghost use Rattle.run_edges.specs.Statuses.{code_of};
 
 /// How a run ended.
 #[derive(Clone, Copy, Debug, PartialEq, Eq)]

@@ -6,7 +6,7 @@ use Rattle.std.proofs.lemmas.List.{append-nil}
 use Rattle.std.proofs.lemmas.List.Concat.{flat_map-append}
 use Rattle.std.proofs.lemmas.List.Elements.{filter_map-append}
 use Rattle.label_codec.specs.declared.label.Label.{Label}
-use Rattle.label_listing.specs.Listing.{label_line}
+use Rattle.report_json.specs.Listing.{label_line}
 
 -- the live labels of the first slots
 abbrev pub live_front : List (Option Label) → ℕ → List Label

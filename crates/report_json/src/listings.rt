@@ -1,12 +1,12 @@
-//! The listing of an area.
+//! The listing of an area: its live labels, and how many there are.
 
 ghost use Rattle.std.specs.Prelude.{◌≡◌, IfOk};
-ghost use Rattle.label_listing.specs.Listing.{label_line, last_line, loaded_listing, place_number};
+ghost use Rattle.report_json.specs.Listing.{label_line, last_line, loaded_listing, place_number};
 
+use crate::buffer::ShortText;
 use index_block::Place;
 use label_area::Area;
 use label_codec::Label;
-use report_json::ShortText;
 use std::alloc::{AllocError, Global};
 
 /// A line for each live label, in the order of their slots, and a last line.

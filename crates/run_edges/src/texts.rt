@@ -1,7 +1,7 @@
 //! The lines of the faults that end a run. They take no memory.
 
 ghost use Rattle.std.specs.Prelude.{◌≡◌, ◌≤◌, ◌++◌, codes, length};
-ghost use Rattle.nd_top.specs.Texts.{fault_line, nfit_fault_text, source_name};
+ghost use Rattle.run_edges.specs.Texts.{fault_line, nfit_fault_text, source_name};
 
 use crate::faults::{Fault, SourceName};
 use nfit_tables::NfitFault;

@@ -4,10 +4,10 @@ use Rattle.std.specs.List.{filter_map, flat_map, range_with_len}
 use Rattle.std.proofs.lemmas.List.{take_all}
 use Rattle.label_codec.specs.declared.label.Label.{Label}
 use Rattle.label_area.specs.LoadedAreas.{LoadedArea, labels_by_slot}
-use Rattle.label_listing.specs.Listing.{label_line, last_line}
-use Rattle.label_listing.proofs.LabelLines.{count-none, count-some, filter_map-map, lines-none, lines-some, live_front}
-use Rattle.label_listing.proofs.lines.listing.Goals as goal
-use Rattle.label_listing.proofs.lines.listing.Goals.{in-Some+in_ok-extend_from_slice, in_default}
+use Rattle.report_json.specs.Listing.{label_line, last_line}
+use Rattle.report_json.proofs.LabelLines.{count-none, count-some, filter_map-map, lines-none, lines-some, live_front}
+use Rattle.report_json.proofs.listings.listing.Goals as goal
+use Rattle.report_json.proofs.listings.listing.Goals.{in-Some+in_ok-extend_from_slice, in_default}
 
 -- all slots were walked
 walked : (area : LoadedArea) (n : ℕ) → length (labels_by_slot area) ≤ n → live_front (labels_by_slot area) n ≡ filter_map (get area.live) (range_with_len 0 area.geometry.slots)

@@ -1,13 +1,13 @@
 //! Why a run ends before all of it is done.
 
 ghost use Rattle.std.specs.Prelude.{◌≡◌};
-ghost use Rattle.nd_top.specs.declared.faults.Fault.TheVariants.{Memory};
-ghost use Rattle.nd_top.specs.Faults.{fault_by, fault_of};
-ghost use Rattle.nd_top.specs.Statuses.{code_of, fault_status};
+ghost use Rattle.run_edges.specs.declared.faults.Fault.TheVariants.{Memory};
+ghost use Rattle.run_edges.specs.Faults.{nfit_fault, open_fault};
+ghost use Rattle.run_edges.specs.Statuses.{code_of, fault_status};
 
 use crate::statuses::Status;
 use namespace_core::OpenFault;
-use nfit_tables::NfitFault;
+use nfit_tables::{NfitFault, ReadNfit};
 use std::alloc::AllocError;
 
 /// What bytes are read from.
@@ -15,7 +15,7 @@ use std::alloc::AllocError;
 pub enum SourceName {
     /// The NFIT.
     Nfit,
-    /// The lines of `run`.
+    /// The input.
     Input,
 }
 
@@ -30,35 +30,13 @@ pub enum Fault {
     Area { dimm: u32 },
     /// The source failed.
     Source(SourceName),
-    /// The source has more than 1,048,576 bytes.
+    /// The source has more bytes than are read of it.
     Limit(SourceName),
     /// Memory was refused.
     Memory,
 }
 
-/// Why the bytes of a source cannot be had.
-#[derive(Clone, Copy, Debug, PartialEq, Eq)]
-pub enum ReadFault {
-    /// The source failed.
-    Failed,
-    /// It has more than 1,048,576 bytes.
-    Limit,
-    /// Memory was refused.
-    Memory,
-}
-
 impl Fault {
-    /// Why a source is not read.
-    pub fn of(source: SourceName, fault: ReadFault) -> Fault
-        ensures { result ≡ fault_of source fault }
-    {
-        match fault {
-            ReadFault::Failed => Fault::Source(source),
-            ReadFault::Limit => Fault::Limit(source),
-            ReadFault::Memory => Fault::Memory,
-        }
-    }
-
     /// The status of a run that it ends, where its line can be said.
     pub fn status(self) -> Status
         ensures { code_of result ≡ fault_status self }
@@ -81,22 +59,24 @@ impl From<AllocError> for Fault {
     }
 }
 
-impl From<AllocError> for ReadFault {
-    ghost use Rattle.nd_top.specs.declared.faults.ReadFault.TheVariants as reads;
+impl From<ReadNfit> for Fault {
+    ghost from_gives = { λ why fault. fault ≡ nfit_fault why };
 
-    ghost from_gives = { λ _ fault. fault ≡ reads.Memory };
-
-    fn from(_: AllocError) -> ReadFault {
-        ReadFault::Memory
+    fn from(why: ReadNfit) -> Fault {
+        match why {
+            ReadNfit::Fault(fault) => Fault::Nfit(fault),
+            ReadNfit::Memory => Fault::Memory,
+        }
     }
 }
 
-/// Why a session cannot be had.
-pub fn start_fault(fault: OpenFault) -> Fault
-    ensures { result ≡ fault_by fault }
-{
-    match fault {
-        OpenFault::Failed { dimm } => Fault::Area { dimm },
-        OpenFault::Memory => Fault::Memory,
+impl From<OpenFault> for Fault {
+    ghost from_gives = { λ why fault. fault ≡ open_fault why };
+
+    fn from(why: OpenFault) -> Fault {
+        match why {
+            OpenFault::Failed { dimm } => Fault::Area { dimm },
+            OpenFault::Memory => Fault::Memory,
+        }
     }
 }

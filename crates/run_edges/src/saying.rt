@@ -1,18 +1,16 @@
 //! The last text of a run is said.
 
-ghost use Rattle.std.specs.Prelude.{◌≡◌};
-ghost use Rattle.nd_top.specs.Saying.{Says};
-ghost use Rattle.nd_top.specs.Statuses.{code_of, fault_status};
-ghost use Rattle.nd_top.specs.Texts.{fault_line};
+ghost use Rattle.run_edges.specs.Saying.{Says, SaysLine};
+ghost use Rattle.run_edges.specs.Statuses.{code_of};
 
 use crate::faults::Fault;
 use crate::statuses::Status;
 use crate::texts::fault_line;
 use rig_trait::{Failed, Rig};
 
-/// Says the line of a fault.
+/// Says the line of a fault, and gives its status.
 pub fn say_fault<R: Rig>(rig: &mut R, fault: Fault) -> u8
-    ensures { Says R.Shown rig.old rig.new (fault_line fault) (fault_status fault) result }
+    ensures { SaysLine R.Shown rig.old rig.new fault result }
 {
     say(rig, fault_line(fault).as_bytes(), fault.status())
 }

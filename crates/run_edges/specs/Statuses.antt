@@ -1,9 +1,9 @@
 -- The numbers of the statuses of runs.
 use Rattle.std.specs.Prelude.{ℕ, Bool, if◌then◌else◌}
-use Rattle.nd_top.specs.declared.faults.Fault.{Fault}
-use Rattle.nd_top.specs.declared.faults.Fault.TheVariants.{Words, Nfit, Area, Source, Limit, Memory}
-use Rattle.nd_top.specs.declared.statuses.Status.{Status}
-use Rattle.nd_top.specs.declared.statuses.Status.TheVariants as status
+use Rattle.run_edges.specs.declared.faults.Fault.{Fault}
+use Rattle.run_edges.specs.declared.faults.Fault.TheVariants.{Words, Nfit, Area, Source, Limit, Memory}
+use Rattle.run_edges.specs.declared.statuses.Status.{Status}
+use Rattle.run_edges.specs.declared.statuses.Status.TheVariants as status
 
 abbrev pub code_of : Status → ℕ
 code_of status.Ok = 0

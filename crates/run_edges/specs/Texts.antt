@@ -4,10 +4,10 @@ use Rattle.std.specs.Fmt.{decimal}
 use Rattle.nfit_tables.specs.declared.fault.NfitFault.{NfitFault}
 use Rattle.nfit_tables.specs.declared.fault.NfitFault.TheVariants as nfit
 use Rattle.report_json.specs.Numbers.{handle_text}
-use Rattle.nd_top.specs.declared.faults.Fault.{Fault}
-use Rattle.nd_top.specs.declared.faults.Fault.TheVariants as run
-use Rattle.nd_top.specs.declared.faults.SourceName.{SourceName}
-use Rattle.nd_top.specs.declared.faults.SourceName.TheVariants.{Nfit, Input}
+use Rattle.run_edges.specs.declared.faults.Fault.{Fault}
+use Rattle.run_edges.specs.declared.faults.Fault.TheVariants as run
+use Rattle.run_edges.specs.declared.faults.SourceName.{SourceName}
+use Rattle.run_edges.specs.declared.faults.SourceName.TheVariants.{Nfit, Input}
 
 -- why bytes are no NFIT
 abbrev pub nfit_fault_text : NfitFault → List ℕ

@@ -1,9 +1,9 @@
 use Rattle.std.proofs.Common.{◌≡◌, ◌≤◌, length}
 use Rattle.std.specs.List.{flat_map}
 use Rattle.label_area.specs.LoadedAreas.{labels_by_slot}
-use Rattle.label_listing.specs.Listing.{label_line}
-use Rattle.label_listing.proofs.LabelLines.{live_front}
-use Rattle.label_listing.proofs.lines.listing.Given as goal
+use Rattle.report_json.specs.Listing.{label_line}
+use Rattle.report_json.proofs.LabelLines.{live_front}
+use Rattle.report_json.proofs.listings.listing.Given as goal
 
 abbrev pub invariant-loop-slot : goal.invariant-loop-slot
 invariant-loop-slot l = record {
