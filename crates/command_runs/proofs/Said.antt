@@ -23,7 +23,8 @@ use Rattle.command_runs.specs.declared.faults.LineFault.{LineFault}
 use Rattle.command_runs.specs.declared.faults.LineFault.TheVariants.{Area, Memory, Say}
 use Rattle.command_runs.specs.Areas.{KeepsAreas, LeavesAreas, LeavesLabels, changed_by_line, initialised_by_line}
 use Rattle.command_runs.specs.LastWrites.{WritesNoMore}
-use Rattle.command_runs.specs.Replies.{Tells, TellsReply}
+use Rattle.command_runs.specs.Replies.{TellsReply}
+use Rattle.run_edges.specs.Saying.{Tells}
 use Rattle.command_runs.specs.Runs.{is_refusal}
 use Rattle.command_runs.specs.Stops.{HasTable}
 use Rattle.command_runs.specs.Turns.{Answers, IsTurned, LeftSaying, LeftUnsaid, SaysAll, SaysFront, Turns}

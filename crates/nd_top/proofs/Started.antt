@@ -23,7 +23,7 @@ use Rattle.command_runs.specs.Faults.{HasAreaFaults, fails_at}
 use Rattle.command_runs.specs.Runs.{Run, at_start}
 use Rattle.command_runs.specs.Stops.{HasTable, IsLeft}
 use Rattle.nd_top.specs.Runs.{StandFor}
-use Rattle.nd_top.proofs.Known.{left-known}
+use Rattle.command_runs.proofs.Known.{left-known}
 
 -- No call failed, and then what failed did.
 pub fails_behind : {R : Type 0} (m : Ghosts R) (dimm : ℕ) (old mid new : R) (failed : Bool) → FailsAt 0 m old mid false → FailsAt dimm m mid new failed → FailsAt dimm m old new failed

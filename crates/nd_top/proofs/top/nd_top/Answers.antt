@@ -2,7 +2,8 @@ use Rattle.std.proofs.Common.{◌≡◌, ℕ, List, Some, refl, sym, ap, subst, 
 use Rattle.std.specs.Option.{option_map}
 use Rattle.std.specs.String.{string_bytes}
 use Rattle.nd_top.specs.declared.words.Request.TheVariants.{Line, Input}
-use Rattle.nd_top.specs.Ends.{Ends, EndsLine}
+use Rattle.nd_top.specs.Ends.{Ends}
+use Rattle.nd_top.specs.Lines.{EndsLine}
 use Rattle.nd_top.specs.Words.{DoLine, RunInput, asked, asked_in}
 use Rattle.nd_top.proofs.Requests.{unasked}
 use Rattle.nd_top.proofs.top.nd_top.Goals as goal
