@@ -17,7 +17,6 @@ use Rattle.cmd_words.specs.Lines.{command_in}
 use Rattle.label_table.specs.Tables.{State, state}
 use Rattle.module_flips.specs.Flips.{IsSizedIn}
 use Rattle.label_codec.specs.ModuleLabels.{Labels}
-use Rattle.namespace_passes.proofs.StagedFlips.{sized-on}
 use Rattle.region_map.specs.declared.platform.Platform.{Platform}
 use Rattle.region_labels.specs.Modules.{dimm_of, size_in}
 use Rattle.namespace_core.specs.Commands.{Does, SaysIfKnown}
@@ -37,7 +36,7 @@ use Rattle.command_runs.specs.Turns.{DoesOn, LeftSaying, LeftUnsaid, Turns}
 use Rattle.command_runs.specs.Uuids.{own_uuid}
 use Rattle.command_runs.proofs.Commands.{says-on}
 use Rattle.command_runs.proofs.Kept.{fits-line, kept-on, left-on, none-named}
-use Rattle.command_runs.proofs.Records.{none-written, same-most, slots-same, table-is, writes-nothing}
+use Rattle.command_runs.proofs.Records.{none-written, same-most, sized-on, slots-same, table-is, writes-nothing}
 
 -- The first k lines are done.
 pub record IsGoing {R : Type 0} (m : Ghosts R) (start : StoredSession) (seed : ℕ) (lines : List (List ℕ)) (old : R) (k : ℕ) (session : StoredSession) (new : R) (refused : Bool) : Type 0 where

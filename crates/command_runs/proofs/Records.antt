@@ -1,16 +1,20 @@
 -- What calls leave at any moment, and what a session and its areas stand for.
-use Rattle.std.proofs.Common.{◌≡◌, ◌≤◌, ℕ, arith, length, false, List, Option, map, find, refl, sym, ap, subst, ◌∙◌, []}
+use Rattle.std.proofs.Common.{◌≡◌, ◌<◌, ◌≤◌, ℕ, arith, get_or, length, false, List, Option, map, find, refl, sym, ap, subst, ◌∙◌, []}
 use Rattle.std.proofs.Common.{◌∷◌, Bool, true, None, Some, cond, eqb}
 use Rattle.std.specs.List.{All}
 use Rattle.std.specs.Option.{option_and_then}
+use Rattle.std.proofs.lemmas.List.{get_or-map, length-map}
 use Rattle.rig_trait.specs.declared.shown.Shown.{Ghosts}
-use Rattle.rig_trait.specs.Areas.{Areas}
+use Rattle.rig_trait.specs.Areas.{Areas, SizesKept}
+use Rattle.rig_trait.specs.Areas as stored
 use Rattle.rig_trait.specs.Frames.{Reads, SayLeaves, SaysOnly}
 use Rattle.rig_trait.specs.Records.{IsSaying}
 use Rattle.rig_trait.proofs.Frames.{reading}
 use Rattle.rig_trait.proofs.Moments.{and_a_call, joined, weakened}
 use Rattle.label_table.specs.Tables.{table}
+use Rattle.module_flips.specs.Flips.{IsSizedIn}
 use Rattle.module_flips.specs.Stored.{StandsIn, stored_labels}
+use Rattle.module_flips.proofs.Stored.{stands-sized}
 use Rattle.region_labels.specs.declared.modules.LoadedModule.{LoadedModule}
 use Rattle.region_labels.specs.Modules.{dimm_of, is_of, size_in}
 use Rattle.label_sets.specs.Init.{slots_at, slots_by_size}
@@ -29,6 +33,10 @@ module _ {R : Type 0} {m : Ghosts R} where
   pub table-is : (rig : R) (session : StoredSession) (areas : Areas) → IsCurrent m rig session → areas ≡ m.areas rig → HasTable session.platform (state_of session) areas
   table-is rig session areas current same =
       ap (λ (a : Areas). table session.platform (stored_labels session.platform.modules a)) same ∙ ap (table session.platform) (sym current.labels_are)
+
+  -- they have the sizes that it shows
+  pub sized-current : (rig : R) (session : StoredSession) → IsCurrent m rig session → All (IsSizedIn (m.areas rig)) session.sets.modules
+  sized-current rig session current k d lt = stands-sized (m.areas rig) _ (current.stands k d lt)
 
   -- it is so behind calls that leave all areas
   pub still-current : {old new : R} (session : StoredSession) → m.tells new ≡ m.tells old → m.areas new ≡ m.areas old → IsCurrent m old session → IsCurrent m new session
@@ -81,3 +89,17 @@ slots-same sets now dimms sizes i handle = slots_by_size (same i)
   where
     same : option_and_then size_in (find (is_of handle) now.modules) ≡ option_and_then size_in (find (is_of handle) sets.modules)
     same = size-kept now.modules handle ∙ (λ j. size-by (dimms j) (sizes j) handle) ∙ sym (size-kept sets.modules handle)
+
+-- lists that show the same are of one length, and show the same at each place
+same-length : {A : Type 0} (f : LoadedModule → A) (ms now : List LoadedModule) → map f now ≡ map f ms → length now ≡ length ms
+same-length f ms now same = sym (length-map now f) ∙ ap length same ∙ length-map ms f
+
+same-at : {A : Type 0} (f : LoadedModule → A) (e : A) (ms now : List LoadedModule) → map f now ≡ map f ms → (k : ℕ) (d : LoadedModule) → k < length ms → f (get_or now k d) ≡ f (get_or ms k d)
+same-at f e ms now same k d lt =
+    sym (get_or-map f now k d e (subst (λ n. k < n) (sym (same-length f ms now same)) lt)) ∙ ap (λ xs. get_or xs k e) same ∙ get_or-map f ms k d e lt
+
+-- the rig still has areas of the sizes that are shown
+pub sized-on : (ms now : List LoadedModule) (areas areas_now : Areas) → map dimm_of now ≡ map dimm_of ms → map size_in now ≡ map size_in ms → SizesKept areas areas_now → All (IsSizedIn areas) ms → All (IsSizedIn areas_now) now
+sized-on ms now areas areas_now dimms sizes kept all k d lt =
+    let k_lt : k < length ms = subst (λ n. k < n) (same-length dimm_of ms now dimms) lt in
+    kept (get_or now k d).dimm ∙ ap (stored.size_in areas) (same-at dimm_of 0 ms now dimms k d k_lt) ∙ all k d k_lt ∙ sym (same-at size_in None ms now sizes k d k_lt)

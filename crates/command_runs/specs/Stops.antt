@@ -4,11 +4,15 @@ use Rattle.rig_trait.specs.Areas.{Areas}
 use Rattle.rig_trait.specs.Records.{CrashRecord}
 use Rattle.label_area.specs.Fair.{IsFair}
 use Rattle.region_map.specs.declared.platform.Platform.{Platform}
-use Rattle.label_table.specs.Tables.{State, table}
+use Rattle.label_table.specs.Tables.{State, state, table}
 use Rattle.module_flips.specs.Stored.{stored_labels}
 use Rattle.command_runs.specs.Runs.{DoesNext, IsBehind, Progress, Run}
 
--- areas stand for the table of a state
+-- the areas of the platform's modules stand for a state
+abbrev pub StandFor : Platform → Areas → State → Type 0
+StandFor platform areas now = state platform (stored_labels platform.modules areas) ≡ now
+
+-- they stand for its table
 abbrev pub HasTable : Platform → State → Areas → Type 0
 HasTable platform state areas = table platform (stored_labels platform.modules areas) ≡ state.table
 

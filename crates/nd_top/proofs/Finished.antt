@@ -22,7 +22,7 @@ use Rattle.command_runs.specs.LastWrites.{IsPastChanges, WritesNoMore}
 use Rattle.command_runs.specs.Ends.{EndsWrites, IsCutShort, IsFinished, IsStopped, IsUnchanged, run_of}
 use Rattle.command_runs.specs.Faults.{HasAreaFaults, HasCause, IsAmong, fails_at, is_say}
 use Rattle.command_runs.specs.Runs.{IsBehind, Progress, Run}
-use Rattle.command_runs.specs.Stops.{HasNextTable, HasTable, IsBetween, IsLeft}
+use Rattle.command_runs.specs.Stops.{HasNextTable, HasTable, IsBetween, IsLeft, StandFor}
 use Rattle.command_runs.proofs.Known.{behind-known, next-known, next_table-known, past-known, past-line}
 use Rattle.command_runs.proofs.Past.{never-past}
 use Rattle.run_edges.specs.declared.faults.Fault.{Fault}
@@ -30,7 +30,7 @@ use Rattle.run_edges.specs.declared.faults.Fault.TheVariants.{Area, Memory}
 use Rattle.run_edges.specs.Saying.{Says, SaysLine}
 use Rattle.run_edges.specs.Statuses.{fault_status, refused_status}
 use Rattle.run_edges.specs.Texts.{fault_line}
-use Rattle.nd_top.specs.Runs.{AreRun, EndsBy, IsCutOff, IsDone, IsEnded, Leaves, SaysEnd, StandFor, WantsMemory}
+use Rattle.nd_top.specs.Runs.{AreRun, EndsBy, IsCutOff, IsDone, IsEnded, Leaves, SaysEnd, WantsMemory}
 use Rattle.nd_top.specs.Stops.{IsLeftOf, SaysFault}
 use Rattle.nd_top.proofs.Started.{bytes_left_run, bytes_run, current_state, faults_behind, faults_said, kept_run, left_run, slots_are, start_is}
 

@@ -2,4 +2,3 @@ pub mod Handles
 pub mod Started
 pub mod Finished
 pub mod Listings
-pub mod Requests

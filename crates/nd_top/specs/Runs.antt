@@ -1,12 +1,10 @@
 -- How lines end that are done on a platform, and what a stop leaves of them.
 use Rattle.std.specs.Prelude.{◌≡◌, ℕ, ◌<◌, Bool, true, false, List, [], ◌++◌, Result, Ok, Err, if◌then◌else◌, length}
 use Rattle.std.specs.Prelude.{take}
-use Rattle.rig_trait.specs.Areas.{Areas}
 use Rattle.rig_trait.specs.declared.shown.Shown.{Ghosts}
 use Rattle.rig_trait.specs.Faults.{counted}
 use Rattle.rig_trait.specs.Frames.{IsTold, LeavesOnly}
-use Rattle.label_table.specs.Tables.{State, state}
-use Rattle.module_flips.specs.Stored.{stored_labels}
+use Rattle.label_table.specs.Tables.{State}
 use Rattle.region_map.specs.declared.platform.Platform.{Platform}
 use Rattle.namespace_core.specs.Commands.{has_module}
 use Rattle.namespace_core.specs.Sessions.{stored_slots}
@@ -22,12 +20,8 @@ use Rattle.command_runs.specs.Areas.{KeepsBytes, LeaveLabels, LeavesBytes, Write
 use Rattle.command_runs.specs.Faults.{HasAreaFaults, IsAmong, fails_at}
 use Rattle.command_runs.specs.LastWrites.{IsPastChanges, IsPastLine, WritesNoMore}
 use Rattle.command_runs.specs.Runs.{DoesNext, IsBehind, Progress, Run}
-use Rattle.command_runs.specs.Stops.{IsLeft}
+use Rattle.command_runs.specs.Stops.{IsLeft, StandFor}
 use Rattle.nd_top.specs.Stops.{IsLeftOf}
-
--- the areas of the platform's modules stand for a state
-abbrev pub StandFor : Platform → Areas → State → Type 0
-StandFor platform areas now = state platform (stored_labels platform.modules areas) ≡ now
 
 -- All lines are done: all replies are said, and the areas stand for the state behind the last line.
 pub record IsDone {R : Type 0} (m : Ghosts R) (run : Run) (old new : R) (status : ℕ) : Type 0 where

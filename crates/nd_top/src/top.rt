@@ -7,8 +7,8 @@ ghost use Rattle.nd_top.specs.Words.{asked};
 
 use crate::input::run_input;
 use crate::labels::say_labels;
-use crate::line::do_line;
-use crate::words::Request;
+use crate::line::do_words;
+use crate::words::{Request, request_of};
 use rig_trait::{Rig, Source};
 use run_edges::{Fault, say_fault};
 use std::alloc::Global;
@@ -44,11 +44,10 @@ pub fn nd_top<R: Rig, N: Source, I: Source>(
 
     ensures goes_on { GoesOn R.Shown rig.old rig.new }
 {
-    match Request::of(alloc, words) {
-        Ok(None) => say_fault(rig, Fault::Words),
-        Ok(Some(Request::Labels { dimm })) => say_labels(alloc, rig, dimm),
-        Ok(Some(Request::Line(line))) => do_line(alloc, &line, rig, nfit, seed),
-        Ok(Some(Request::Input)) => run_input(alloc, rig, nfit, input, seed),
-        Err(_) => say_fault(rig, Fault::Memory),
+    match request_of(words) {
+        None => say_fault(rig, Fault::Words),
+        Some(Request::Labels { dimm }) => say_labels(alloc, rig, dimm),
+        Some(Request::Line { front, back }) => do_words(alloc, front, back, rig, nfit, seed),
+        Some(Request::Input) => run_input(alloc, rig, nfit, input, seed),
     }
 }

@@ -1,15 +1,15 @@
 use Rattle.std.proofs.Common.{◌≡◌, List, ℕ, map, subst, sym, ◌∙◌}
 use Rattle.region_map.specs.declared.platform.Platform.{Platform}
-use Rattle.module_flips.proofs.Stored.{stands-sized}
 use Rattle.namespace_core.specs.Sessions.{slots_of, state_of}
+use Rattle.command_runs.proofs.Records.{sized-current}
 use Rattle.nd_top.specs.Runs.{EndsOn, not_started, ran}
 use Rattle.nd_top.proofs.Finished.{are_run}
 use Rattle.nd_top.proofs.runs.run_on.Goals as goal
 
 pub run_lines-outcome-requires-clause-sized : goal.run_lines-outcome-requires-clause-sized
-run_lines-outcome-requires-clause-sized g c told k d lt =
+run_lines-outcome-requires-clause-sized g c told =
     let started = c.in-Ok.ensures.started in
-    stands-sized (g.R.Shown.areas c.start_session.new.rig) _ ((started.current (sym started.reads.goes_on.tells ∙ told)).stands k d lt)
+    sized-current c.start_session.new.rig c.in-Ok.session (started.current (sym started.reads.goes_on.tells ∙ told))
 
 pub returns-in-Err-clause-ends : goal.returns-in-Err-clause-ends
 returns-in-Err-clause-ends g c = not_started c.start_session.new.rig c.in-Err.fault c.in-Err.ensures.fault c.say_fault.ensures

@@ -5,7 +5,7 @@ use Rattle.std.proofs.lemmas.Iterator.{YieldsList-from_slice, YieldsList-from_ma
 use Rattle.std.proofs.lemmas.Iterator.Adapters.{YieldsList-from_skip}
 use Rattle.std.proofs.lemmas.Iterator.Consumers.{YieldsList-at, YieldsList-from_chain}
 use Rattle.nd_top.specs.Words.{Word, line_of}
-use Rattle.nd_top.proofs.words.line.Goals as goal
+use Rattle.nd_top.proofs.line.line.Goals as goal
 
 flat_map-map : {X Y A : Type 0} (f : Y → List A) (g : X → Y) (xs : List X) → flat_map (λ x. f (g x)) xs ≡ flat_map f (map g xs)
 flat_map-map f g [] = refl
