@@ -65,10 +65,8 @@ pub fn run_lines<R: Rig>(
 {
     let mut refused = false;
     for (index, line) in lines.iter().enumerate() {
-        match turn(alloc, rig, session, line, seed, index as u64 + 1) {
-            Ok(is_refused) => refused = refused || is_refused,
-            Err(fault) => return Err(fault),
-        }
+        let is_refused = turn(alloc, rig, session, line, seed, index as u64 + 1)?;
+        refused = refused || is_refused;
     }
     Ok(refused)
 }

@@ -31,13 +31,12 @@ pub fn turn<R: Rig>(
     requires sized { IsTold R.Shown rig.old → All (IsSizedIn (R.areas rig.old)) session.old.sets.modules }
     ensures { Turns R.Shown session.old seed number (command_in line.now) rig.old session.new rig.new result }
 {
-    match answer(alloc, rig, session, line, seed, number) {
-        Ok(Some(reply)) => match say_reply(alloc, rig, &reply) {
-            Ok(()) => Ok(is_refused(&reply)),
-            Err(fault) => Err(fault),
-        },
-        Ok(None) => Ok(false),
-        Err(fault) => Err(fault),
+    match answer(alloc, rig, session, line, seed, number)? {
+        Some(reply) => {
+            say_reply(alloc, rig, &reply)?;
+            Ok(is_refused(&reply))
+        }
+        None => Ok(false),
     }
 }
 
