@@ -16,23 +16,19 @@ use Rattle.label_area.specs.Inits as area
 use Rattle.label_area.specs.Inits.{IsVacant, LeftByInit}
 use Rattle.label_area.specs.Modules.{area_kind}
 use Rattle.label_table.specs.Tables.{State, state}
-use Rattle.module_flips.specs.Stops.{LeftIn, WritesAmong}
 use Rattle.label_codec.specs.ModuleLabels.{Labels}
 use Rattle.label_codec.specs.declared.kind.AreaKind.{AreaKind}
 use Rattle.label_codec.specs.declared.kind.AreaKind.TheVariants as kinds
 use Rattle.region_map.specs.declared.platform.Platform.{Platform}
-use Rattle.region_labels.specs.Modules.{dimm_of, size_in}
-use Rattle.namespace_core.specs.Commands.{Does, HasAreas, IsBeforeOrAfter, LeavesArea, SaysIfKnown, has_module, is_change, is_init, may_change, written_by}
+use Rattle.namespace_core.specs.Commands.{Does, HasAreas, LeavesArea, SaysIfKnown, has_module, is_change, is_init, may_change, written_by}
 use Rattle.namespace_core.specs.Faults.{HasRunCause, IsRunAmong, IsRunAt, spent_after}
 use Rattle.namespace_core.specs.Found.{DoesAnyhow}
+use Rattle.namespace_core.specs.Left.{LeavesTable, WritesOnly}
+use Rattle.namespace_core.specs.Sessions.{IsAlike, IsCurrent, StoredSession, labels_of, slots_of, state_of}
 use Rattle.namespace_core.proofs.Found.{does-anyhow}
-use Rattle.namespace_core.specs.Sessions.{IsCurrent, StoredSession, labels_of, slots_of, state_of}
+use Rattle.namespace_core.proofs.Unknown.{unknown-refused}
 use Rattle.namespace_core.specs.declared.faults.RunFault.{RunFault}
 use Rattle.namespace_core.specs.declared.faults.RunFault.TheVariants as faults
-use Rattle.table_steps.specs.Changes.{IsDoneBy}
-use Rattle.table_steps.specs.Initialise.{IsInitialised, already_ready, cannot_initialise}
-use Rattle.table_steps.specs.Refusals.{first_of, refused_if}
-use Rattle.view_types.specs.declared.refusal.Refusal.TheVariants.{UnknownDimm}
 use Rattle.view_types.specs.declared.reply.Reply.{Reply}
 use Rattle.command_runs.specs.Areas.{IsWritten, KeepsAreas, LeavesAreas, LeavesLabels, MayInitialise, changed_by_command, initialised_by_command}
 use Rattle.command_runs.specs.Faults.{HasAreaFaults, IsAmong, fails_at, is_area, is_say}
@@ -45,10 +41,10 @@ pub record HasApplied {R : Type 0} (m : Ghosts R) (session : StoredSession) (com
   pub step : IfOk result (λ reply. SaysIfKnown session.platform command (IsCurrent m old session) (Does session.platform (slots_of session) (labels_of session) command own reply (state_of now)))
   pub anyhow : IfOk result (λ reply. DoesAnyhow session.platform (slots_of session) (labels_of session) command own reply (state_of now))
   pub current : IsCurrent m old session → OnOk result (IsCurrent m new now)
-  pub any_moment : IsCurrent m old session → LeavesOnly m old new (LeftIn session.platform.modules (m.said old) (IsBeforeOrAfter session.platform (slots_of session) (labels_of session) command own))
+  pub any_moment : IsCurrent m old session → LeavesOnly m old new (LeavesTable session command own (m.said old))
   pub kept : may_change command result ≡ false → now ≡ session
   pub reads_only : may_change command result ≡ false → Reads m old new
-  pub writes : WritesAmong (written_by session.platform command) m old new
+  pub writes : WritesOnly m session.platform command old new
   pub area : IsTold m old → HasAreas command (m.areas old) (m.areas new) result
   pub area_left : is_init command ≡ true → IsTold m old → LeavesOnly m old new (LeavesArea command (m.areas old) (m.said old))
   pub cause : HasRunCause m old new result
@@ -56,8 +52,7 @@ pub record HasApplied {R : Type 0} (m : Ghosts R) (session : StoredSession) (com
   pub at : IfErr result (IsRunAt (written_by session.platform command))
   pub spends : now.spent ≡ spent_after session.spent result
   pub platform : now.platform ≡ session.platform
-  pub dimms : map dimm_of now.sets.modules ≡ map dimm_of session.sets.modules
-  pub sizes : map size_in now.sets.modules ≡ map size_in session.sets.modules
+  pub alike : IsAlike session now
   pub reads : is_init command ≡ false → m.reads new ≡ m.reads old
 
 not_both : {b : Bool} → b ≡ true → b ≡ false → ⊥
@@ -93,17 +88,8 @@ cause-answer m old new (Err (faults.Area dimm)) is = is
 cause-answer m old new (Err faults.Memory) is = is
 cause-answer m old new (Err faults.Spent) is = is
 
--- the platform has no module with this handle, which is not initialised
-module _ (platform : Platform) (slots : ℕ → ℕ) (labels : Labels) (own : List ℕ) (dimm : ℕ) (absent : has_module platform dimm ≡ false) where
-  unknown-refused : (reply : Reply) (after : State) → Does platform slots labels (InitLabels dimm) own reply after → is_change reply ≡ false
-  unknown-refused reply after does = by (has_module platform dimm) absent does
-    where
-      by : (b : Bool) → b ≡ false
-          → IsDoneBy (first_of (refused_if (not b) (UnknownDimm dimm) ∷ cannot_initialise dimm (labels dimm).kind ∷ already_ready dimm (labels dimm).kind ∷ []))
-          (state platform labels) (IsInitialised platform labels dimm (slots dimm)) reply after → is_change reply ≡ false
-      by true is done = absurd cc
-      by false is done = ap is_change done.0
-
+-- the platform has no module with this handle, so its area is none that failed
+module _ (platform : Platform) (dimm : ℕ) (absent : has_module platform dimm ≡ false) where
   known-fault : (failed : ℕ) → is_among (dimm ∷ []) failed ≡ true → has_module platform failed ≡ true → ⊥
   known-fault failed is known = by (eqb failed dimm) refl
     where
@@ -119,7 +105,7 @@ module _ {R : Type 0} (m : Ghosts R) (session : StoredSession) (seed number : �
   module _ (dimm : ℕ) where
     unknown-unchanged : has_module session.platform dimm ≡ false → (result : Result Reply RunFault) → HasApplied m session (InitLabels dimm) own old now new result → may_change (InitLabels dimm) result ≡ false
     unknown-unchanged absent (Ok reply) has = unknown-refused session.platform (slots_of session) (labels_of session) own dimm absent reply (state_of now) (has.step (inr absent))
-    unknown-unchanged absent (Err (faults.Area failed)) has = absurd (known-fault session.platform (slots_of session) (labels_of session) own dimm absent failed has.at has.among)
+    unknown-unchanged absent (Err (faults.Area failed)) has = absurd (known-fault session.platform dimm absent failed has.at has.among)
     unknown-unchanged absent (Err faults.Memory) has = refl
     unknown-unchanged absent (Err faults.Spent) has = refl
 
@@ -219,8 +205,7 @@ module _ {R : Type 0} (m : Ghosts R) (session : StoredSession) (seed number : �
 
     left-command : IsCurrent m old session → LeavesOnly m old new (LeftUnsaid (IsCurrent m old session) session seed number (Ok (Some command)) (m.said old))
     left-command current =
-        let Before = LeftIn session.platform.modules (m.said old) (IsBeforeOrAfter session.platform (slots_of session) (labels_of session) command own) in
-        weakened Before (LeftUnsaid (IsCurrent m old session) session seed number (Ok (Some command)) (m.said old))
+        weakened (LeavesTable session command own (m.said old)) (LeftUnsaid (IsCurrent m old session) session seed number (Ok (Some command)) (m.said old))
         (λ c left. record {
           said_is = left.said_is;
           areas_are = λ fair. ⊎_elim inl (λ after. inr (record {
@@ -252,6 +237,5 @@ module _ {R : Type 0} (m : Ghosts R) (session : StoredSession) (seed number : �
       reads = λ none. has.reads (not-init session.platform command none);
       spends = has.spends ∙ spent-answer session.spent unspent result;
       platform = has.platform;
-      dimms = has.dimms;
-      sizes = has.sizes;
+      alike = has.alike;
     }

@@ -26,10 +26,11 @@ use Rattle.command_runs.specs.LastWrites.{WritesNoMore}
 use Rattle.command_runs.specs.Replies.{TellsReply}
 use Rattle.run_edges.specs.Saying.{Tells}
 use Rattle.command_runs.specs.Runs.{is_refusal}
-use Rattle.command_runs.specs.Stops.{HasTable}
+use Rattle.namespace_core.specs.Sessions.{HasTable}
 use Rattle.command_runs.specs.Turns.{Answers, IsTurned, LeftSaying, LeftUnsaid, SaysAll, SaysFront, Turns}
 use Rattle.command_runs.proofs.Commands.{list-unchanged}
-use Rattle.command_runs.proofs.Records.{read-only, same-most, says-nothing-written, still-current, table-is}
+use Rattle.command_runs.proofs.Records.{read-only, same-most, says-nothing-written}
+use Rattle.namespace_core.proofs.Alike.{still-current, table-is}
 
 -- what a stop leaves of areas is the same while something is said
 pub LeavesAreas-same : (platform : Platform) (named : List ℕ) (areas : Areas) (from c : CrashRecord) → c.areas ≡ from.areas → c.torn ≡ from.torn → LeavesAreas platform named areas from → LeavesAreas platform named areas c
@@ -73,8 +74,7 @@ module _ {R : Type 0} (m : Ghosts R) (session : StoredSession) (seed number : �
       reads = a.reads;
       spends = a.spends;
       platform = a.platform;
-      dimms = a.dimms;
-      sizes = a.sizes;
+      alike = a.alike;
       goes_on = a.nothing.goes_on;
     }
     turns-fault Memory a = record {
@@ -87,8 +87,7 @@ module _ {R : Type 0} (m : Ghosts R) (session : StoredSession) (seed number : �
       reads = a.reads;
       spends = a.spends;
       platform = a.platform;
-      dimms = a.dimms;
-      sizes = a.sizes;
+      alike = a.alike;
       goes_on = a.nothing.goes_on;
     }
     turns-fault Say a = absurd (let differ : true ≡ false = a.not_say in cc)
@@ -105,8 +104,7 @@ module _ {R : Type 0} (m : Ghosts R) (session : StoredSession) (seed number : �
       reads = a.reads;
       spends = a.spends;
       platform = a.platform;
-      dimms = a.dimms;
-      sizes = a.sizes;
+      alike = a.alike;
       goes_on = a.nothing.goes_on;
     }
 
@@ -193,8 +191,7 @@ module _ {R : Type 0} (m : Ghosts R) (session : StoredSession) (seed number : �
     reads = λ none. tells.says_only.reads ∙ a.reads none;
     spends = a.spends;
     platform = a.platform;
-    dimms = a.dimms;
-    sizes = a.sizes;
+    alike = a.alike;
     goes_on = goes_on a.nothing.goes_on tells.says_only.goes_on;
   }
 
@@ -215,8 +212,7 @@ module _ {R : Type 0} (m : Ghosts R) (session : StoredSession) (seed number : �
     reads = λ none. tells.says_only.reads ∙ a.reads none;
     spends = a.spends;
     platform = a.platform;
-    dimms = a.dimms;
-    sizes = a.sizes;
+    alike = a.alike;
     goes_on = goes_on a.nothing.goes_on tells.says_only.goes_on;
   }
 

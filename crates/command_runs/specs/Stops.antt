@@ -3,20 +3,10 @@ use Rattle.std.specs.Prelude.{◌≡◌, ◌⊎◌, ℕ, ◌<◌, List, ◌++◌
 use Rattle.rig_trait.specs.Areas.{Areas}
 use Rattle.rig_trait.specs.Records.{CrashRecord}
 use Rattle.label_area.specs.Fair.{IsFair}
-use Rattle.region_map.specs.declared.platform.Platform.{Platform}
-use Rattle.label_table.specs.Tables.{State, state, table}
-use Rattle.module_flips.specs.Stored.{stored_labels}
+use Rattle.namespace_core.specs.Sessions.{HasTable}
 use Rattle.command_runs.specs.Runs.{DoesNext, IsBehind, Progress, Run}
 
--- the areas of the platform's modules stand for a state
-abbrev pub StandFor : Platform → Areas → State → Type 0
-StandFor platform areas now = state platform (stored_labels platform.modules areas) ≡ now
-
--- they stand for its table
-abbrev pub HasTable : Platform → State → Areas → Type 0
-HasTable platform state areas = table platform (stored_labels platform.modules areas) ≡ state.table
-
--- they stand for the table behind the line that follows
+-- areas stand for the table behind the line that follows
 pub record HasNextTable (known : Type 0) (run : Run) (k : ℕ) (progress : Progress) (areas : Areas) : Type 0 where
   pub next : Progress
   pub does : DoesNext known run k progress next

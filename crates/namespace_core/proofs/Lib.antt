@@ -1,4 +1,6 @@
 pub mod Found
+pub mod Alike
+pub mod Unknown
 pub mod Telling
 pub mod Standing
 pub mod Changing

@@ -3,6 +3,7 @@ pub mod Faults
 pub mod Found
 pub mod Done
 pub mod Sessions
+pub mod Left
 pub mod Codes
 pub mod Kept
 pub mod Success

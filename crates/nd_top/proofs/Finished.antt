@@ -11,7 +11,7 @@ use Rattle.rig_trait.proofs.Moments.{and_a_call, joined, weakened}
 use Rattle.label_area.proofs.FairRecords.{IsFair-same}
 use Rattle.region_map.specs.declared.platform.Platform.{Platform}
 use Rattle.namespace_core.specs.Commands.{has_module}
-use Rattle.namespace_core.specs.Sessions.{IsCurrent, StoredSession, slots_of, state_of, stored_slots}
+use Rattle.namespace_core.specs.Sessions.{HasTable, IsCurrent, StandFor, StoredSession, slots_of, state_of, stored_slots}
 use Rattle.command_runs.proofs.Records.{says-nothing-written}
 use Rattle.command_runs.proofs.Said.{LeavesAreas-same}
 use Rattle.command_runs.specs.declared.faults.LineFault.{LineFault}
@@ -22,7 +22,7 @@ use Rattle.command_runs.specs.LastWrites.{IsPastChanges, WritesNoMore}
 use Rattle.command_runs.specs.Ends.{EndsWrites, IsCutShort, IsFinished, IsStopped, IsUnchanged, run_of}
 use Rattle.command_runs.specs.Faults.{HasAreaFaults, HasCause, IsAmong, fails_at, is_say}
 use Rattle.command_runs.specs.Runs.{IsBehind, Progress, Run}
-use Rattle.command_runs.specs.Stops.{HasNextTable, HasTable, IsBetween, IsLeft, StandFor}
+use Rattle.command_runs.specs.Stops.{HasNextTable, IsBetween, IsLeft}
 use Rattle.command_runs.proofs.Known.{behind-known, next-known, next_table-known, past-known, past-line}
 use Rattle.command_runs.proofs.Past.{never-past}
 use Rattle.run_edges.specs.declared.faults.Fault.{Fault}

@@ -7,7 +7,7 @@ use Rattle.rig_trait.specs.Frames.{IsTold, LeavesOnly}
 use Rattle.label_table.specs.Tables.{State}
 use Rattle.region_map.specs.declared.platform.Platform.{Platform}
 use Rattle.namespace_core.specs.Commands.{has_module}
-use Rattle.namespace_core.specs.Sessions.{stored_slots}
+use Rattle.namespace_core.specs.Sessions.{StandFor, stored_slots}
 use Rattle.run_edges.specs.declared.faults.Fault.{Fault}
 use Rattle.run_edges.specs.declared.faults.Fault.TheVariants as faults
 use Rattle.run_edges.specs.Saying.{SaysLine}
@@ -20,7 +20,7 @@ use Rattle.command_runs.specs.Areas.{KeepsBytes, LeaveLabels, LeavesBytes, Write
 use Rattle.command_runs.specs.Faults.{HasAreaFaults, IsAmong, fails_at}
 use Rattle.command_runs.specs.LastWrites.{IsPastChanges, IsPastLine, WritesNoMore}
 use Rattle.command_runs.specs.Runs.{DoesNext, IsBehind, Progress, Run}
-use Rattle.command_runs.specs.Stops.{IsLeft, StandFor}
+use Rattle.command_runs.specs.Stops.{IsLeft}
 use Rattle.nd_top.specs.Stops.{IsLeftOf}
 
 -- All lines are done: all replies are said, and the areas stand for the state behind the last line.

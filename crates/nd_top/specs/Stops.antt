@@ -5,7 +5,8 @@ use Rattle.label_area.specs.Fair.{IsFair}
 use Rattle.run_edges.specs.declared.faults.Fault.{Fault}
 use Rattle.run_edges.specs.Texts.{fault_line}
 use Rattle.command_runs.specs.Runs.{IsBehind, Progress, Run}
-use Rattle.command_runs.specs.Stops.{HasNextTable, HasTable, IsLeft}
+use Rattle.command_runs.specs.Stops.{HasNextTable, IsLeft}
+use Rattle.namespace_core.specs.Sessions.{HasTable}
 
 -- The line of the fault, or a front of it, is said behind the replies to the first lines: so many are acknowledged. In
 -- a fair record the areas stand for the table behind these lines, or behind one more.

@@ -1,7 +1,7 @@
 use Rattle.std.proofs.Common.{◌≡◌, List, ℕ, map, subst, sym, ◌∙◌}
 use Rattle.region_map.specs.declared.platform.Platform.{Platform}
 use Rattle.namespace_core.specs.Sessions.{slots_of, state_of}
-use Rattle.command_runs.proofs.Records.{sized-current}
+use Rattle.namespace_core.proofs.Alike.{sized-current}
 use Rattle.nd_top.specs.Runs.{EndsOn, not_started, ran}
 use Rattle.nd_top.proofs.Finished.{are_run}
 use Rattle.nd_top.proofs.runs.run_on.Goals as goal
