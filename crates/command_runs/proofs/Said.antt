@@ -16,7 +16,7 @@ use Rattle.label_codec.specs.declared.kind.AreaKind.TheVariants.{Uninit}
 use Rattle.region_map.specs.declared.platform.Platform.{Platform}
 use Rattle.report_json.specs.Texts.{is_one_line, reply_text}
 use Rattle.report_json.proofs.Ends.{ended}
-use Rattle.namespace_core.specs.Sessions.{IsCurrent, StoredSession, state_of}
+use Rattle.namespace_core.specs.Sessions.{HasTable, IsCurrent, StoredSession, state_of}
 use Rattle.view_types.specs.declared.reply.Reply.{Reply}
 use Rattle.view_types.specs.declared.word_fault.WordFault.{WordFault}
 use Rattle.command_runs.specs.declared.faults.LineFault.{LineFault}
@@ -26,7 +26,6 @@ use Rattle.command_runs.specs.LastWrites.{WritesNoMore}
 use Rattle.command_runs.specs.Replies.{TellsReply}
 use Rattle.run_edges.specs.Saying.{Tells}
 use Rattle.command_runs.specs.Runs.{is_refusal}
-use Rattle.namespace_core.specs.Sessions.{HasTable}
 use Rattle.command_runs.specs.Turns.{Answers, IsTurned, LeftSaying, LeftUnsaid, SaysAll, SaysFront, Turns}
 use Rattle.command_runs.proofs.Commands.{list-unchanged}
 use Rattle.command_runs.proofs.Records.{read-only, same-most, says-nothing-written}
