@@ -19,15 +19,15 @@ use Rattle.label_area.specs.Inits as area
 use Rattle.label_area.specs.Inits.{IsVacant, LeftByInit}
 use Rattle.label_area.specs.Modules.{area_kind}
 use Rattle.label_table.specs.Tables.{State, state}
-use Rattle.module_flips.specs.Stops.{LeftIn, WritesAmong}
+use Rattle.label_codec.specs.ModuleLabels.{Labels}
 use Rattle.label_codec.specs.declared.kind.AreaKind.{AreaKind}
 use Rattle.label_codec.specs.declared.kind.AreaKind.TheVariants as kinds
 use Rattle.region_map.specs.declared.platform.Platform.{Platform}
-use Rattle.region_labels.specs.Modules.{dimm_of, size_in}
-use Rattle.namespace_core.specs.Commands.{Does, DoesAnyhow, HasAreas, IsBeforeOrAfter, LeavesArea, SaysIfKnown, has_module, is_init, may_change, written_by}
+use Rattle.namespace_core.specs.Commands.{Does, DoesAnyhow, HasAreas, LeavesArea, SaysIfKnown, has_module, is_init, may_change, written_by}
 use Rattle.namespace_core.specs.Faults.{HasRunCause, IsRunAmong, IsRunAt, spent_after}
+use Rattle.namespace_core.specs.Left.{LeavesTable, WritesOnly}
+use Rattle.namespace_core.specs.Sessions.{IsAlike, IsCurrent, StoredSession, labels_of, slots_of, state_of}
 use Rattle.namespace_core.proofs.Found.{does-anyhow, says-fact, unknown-refused}
-use Rattle.namespace_core.specs.Sessions.{IsCurrent, StoredSession, labels_of, slots_of, state_of}
 use Rattle.namespace_core.specs.declared.faults.RunFault.{RunFault}
 use Rattle.namespace_core.specs.declared.faults.RunFault.TheVariants as faults
 use Rattle.view_types.specs.declared.reply.Reply.{Reply}
@@ -43,10 +43,10 @@ pub record HasApplied {R : Type 0} (m : Ghosts R) (session : StoredSession) (par
   pub step : IfOk result (λ reply. SaysIfKnown session.platform part (IsCurrent m old session) (Does session.platform (slots_of session) (labels_of session) part own reply (state_of now)))
   pub anyhow : IfOk result (λ reply. DoesAnyhow session.platform (slots_of session) (labels_of session) part own reply (state_of now))
   pub current : IsCurrent m old session → OnOk result (IsCurrent m new now)
-  pub any_moment : IsCurrent m old session → LeavesOnly m old new (LeftIn session.platform.modules (m.said old) (IsBeforeOrAfter session.platform (slots_of session) (labels_of session) part own))
+  pub any_moment : IsCurrent m old session → LeavesOnly m old new (LeavesTable session part own (m.said old))
   pub kept : may_change part result ≡ false → now ≡ session
   pub reads_only : may_change part result ≡ false → Reads m old new
-  pub writes : WritesAmong (written_by session.platform part) m old new
+  pub writes : WritesOnly m session.platform part old new
   pub area : IsTold m old → HasAreas part (m.areas old) (m.areas new) result
   pub area_left : is_init part ≡ true → IsTold m old → LeavesOnly m old new (LeavesArea part (m.areas old) (m.said old))
   pub cause : HasRunCause m old new result
@@ -54,8 +54,7 @@ pub record HasApplied {R : Type 0} (m : Ghosts R) (session : StoredSession) (par
   pub at : IfErr result (IsRunAt (written_by session.platform part))
   pub spends : now.spent ≡ spent_after session.spent result
   pub platform : now.platform ≡ session.platform
-  pub dimms : map dimm_of now.sets.modules ≡ map dimm_of session.sets.modules
-  pub sizes : map size_in now.sets.modules ≡ map size_in session.sets.modules
+  pub alike : IsAlike session now
   pub reads : is_init part ≡ false → m.reads new ≡ m.reads old
 
 not_both : {b : Bool} → b ≡ true → b ≡ false → ⊥
@@ -91,7 +90,7 @@ cause-answer m old new (Err (faults.Area dimm)) is = is
 cause-answer m old new (Err faults.Memory) is = is
 cause-answer m old new (Err faults.Spent) is = is
 
--- the platform has no module with this handle, which is not initialised
+-- the platform has no module with this handle, so its area is none that failed
 module _ (platform : Platform) (dimm : ℕ) (absent : has_module platform dimm ≡ false) where
   known-fault : (failed : ℕ) → is_among (dimm ∷ []) failed ≡ true → has_module platform failed ≡ true → ⊥
   known-fault failed is known = by (eqb failed dimm) refl
@@ -208,8 +207,7 @@ module _ {R : Type 0} (m : Ghosts R) (session : StoredSession) (seed number : �
 
     left-command : IsCurrent m old session → LeavesOnly m old new (LeftUnsaid (IsCurrent m old session) session seed number (Ok (Some command)) (m.said old))
     left-command current =
-        let Before = LeftIn session.platform.modules (m.said old) (IsBeforeOrAfter session.platform (slots_of session) (labels_of session) (part_of command) own) in
-        weakened Before (LeftUnsaid (IsCurrent m old session) session seed number (Ok (Some command)) (m.said old))
+        weakened (LeavesTable session (part_of command) own (m.said old)) (LeftUnsaid (IsCurrent m old session) session seed number (Ok (Some command)) (m.said old))
         (λ c left. record {
           said_is = left.said_is;
           areas_are = λ fair. ⊎_elim inl (λ after. inr (record {
@@ -241,6 +239,5 @@ module _ {R : Type 0} (m : Ghosts R) (session : StoredSession) (seed number : �
       reads = λ none. has.reads (not-init session.platform (part_of command) none);
       spends = has.spends ∙ spent-answer session.spent unspent result;
       platform = has.platform;
-      dimms = has.dimms;
-      sizes = has.sizes;
+      alike = has.alike;
     }

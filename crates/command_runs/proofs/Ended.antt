@@ -9,16 +9,16 @@ use Rattle.rig_trait.proofs.Moments.{joined, weakened}
 use Rattle.cmd_words.specs.Lines.{command_in}
 use Rattle.label_table.specs.Tables.{State}
 use Rattle.region_map.specs.declared.platform.Platform.{Platform}
-use Rattle.namespace_core.specs.Sessions.{IsCurrent, StoredSession, state_of}
+use Rattle.namespace_core.specs.Sessions.{HasTable, IsCurrent, StoredSession, state_of}
 use Rattle.command_runs.specs.declared.faults.LineFault.{LineFault}
 use Rattle.command_runs.specs.declared.faults.LineFault.TheVariants.{Area, Memory, Say}
 use Rattle.command_runs.specs.LastWrites.{IsPastChanges}
 use Rattle.command_runs.specs.Ends.{Ends, EndsWrites, IsEndedBy, IsStopped, IsThrough, run_of}
 use Rattle.command_runs.specs.Runs.{is_change_if, text_if}
-use Rattle.command_runs.specs.Stops.{HasTable}
 use Rattle.command_runs.specs.Turns.{Turns}
 use Rattle.command_runs.proofs.Going.{IsGoing, both-false, left-between, next-does, no-more-on, with_reply}
-use Rattle.command_runs.proofs.Records.{read-only, still-current, table-is, writes-nothing}
+use Rattle.command_runs.proofs.Records.{read-only, writes-nothing}
+use Rattle.namespace_core.proofs.Alike.{still-current, table-is}
 
 module _ {R : Type 0} (m : Ghosts R) (start : StoredSession) (seed : ℕ) (lines : List (List ℕ)) (old : R) (k : ℕ) (session : StoredSession) (mid : R) (refused : Bool) (going : IsGoing m start seed lines old k session mid refused) where
   module _ (line : List ℕ) (is_next : slice_get lines k ≡ Some line) (now : StoredSession) (new : R) where

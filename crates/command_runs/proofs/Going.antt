@@ -17,13 +17,11 @@ use Rattle.cmd_words.specs.declared.parts.Part.{Part}
 use Rattle.cmd_words.specs.Parts.{part_of}
 use Rattle.cmd_words.specs.Lines.{command_in}
 use Rattle.label_table.specs.Tables.{State, state}
-use Rattle.module_flips.specs.Flips.{IsSizedIn}
 use Rattle.label_codec.specs.ModuleLabels.{Labels}
-use Rattle.namespace_passes.proofs.StagedFlips.{sized-on}
 use Rattle.region_map.specs.declared.platform.Platform.{Platform}
-use Rattle.region_labels.specs.Modules.{dimm_of, size_in}
 use Rattle.namespace_core.specs.Commands.{Does, DoesAnyhow, SaysIfKnown}
-use Rattle.namespace_core.specs.Sessions.{IsCurrent, StoredSession, slots_of, state_of}
+use Rattle.namespace_core.specs.Sessions.{HasSizes, HasTable, IsAlike, IsCurrent, StoredSession, slots_of, state_of}
+use Rattle.namespace_core.proofs.Alike.{sized-alike, slots-alike, table-is}
 use Rattle.view_types.specs.declared.reply.Reply.{Reply}
 use Rattle.view_types.specs.declared.word_fault.WordFault.{WordFault}
 use Rattle.command_runs.specs.declared.faults.LineFault.{LineFault}
@@ -32,12 +30,12 @@ use Rattle.command_runs.specs.Ends.{IsThrough, run_of}
 use Rattle.command_runs.specs.Faults.{fails_at}
 use Rattle.command_runs.specs.LastWrites.{IsPastChanges, IsPastLine, WritesNoMore}
 use Rattle.command_runs.specs.Runs.{DoesLine, DoesNext, IsBehind, Progress, Run, at_start, is_change_if, is_refusal_if, text_if}
-use Rattle.command_runs.specs.Stops.{HasTable, IsBetween, IsLeft}
+use Rattle.command_runs.specs.Stops.{IsBetween, IsLeft}
 use Rattle.command_runs.specs.Turns.{DoesOn, LeftSaying, LeftUnsaid, Turns}
 use Rattle.command_runs.specs.Uuids.{own_uuid}
 use Rattle.command_runs.proofs.Commands.{says-on}
 use Rattle.command_runs.proofs.Kept.{fits-line, kept-on, left-on, none-named}
-use Rattle.command_runs.proofs.Records.{none-written, same-most, slots-same, table-is, writes-nothing}
+use Rattle.command_runs.proofs.Records.{none-written, same-most, writes-nothing}
 
 -- The first k lines are done.
 pub record IsGoing {R : Type 0} (m : Ghosts R) (start : StoredSession) (seed : ℕ) (lines : List (List ℕ)) (old : R) (k : ℕ) (session : StoredSession) (new : R) (refused : Bool) : Type 0 where
@@ -56,8 +54,7 @@ pub record IsGoing {R : Type 0} (m : Ghosts R) (start : StoredSession) (seed : �
   pub reads : initialised_by start.platform lines ≡ [] → m.reads new ≡ m.reads old
   pub unspent : session.spent ≡ false
   pub platform : session.platform ≡ start.platform
-  pub dimms : map dimm_of session.sets.modules ≡ map dimm_of start.sets.modules
-  pub sizes : map size_in session.sets.modules ≡ map size_in start.sets.modules
+  pub alike : IsAlike start session
   pub goes_on : GoesOn m old new
 
 -- behind a line with this reply
@@ -109,8 +106,7 @@ module _ {R : Type 0} (m : Ghosts R) (start : StoredSession) (seed : ℕ) (lines
     reads = λ none. refl;
     unspent = unspent;
     platform = refl;
-    dimms = refl;
-    sizes = refl;
+    alike = record { dimms = refl; sizes = refl };
     goes_on = (no_call m old).goes_on;
   }
 
@@ -119,24 +115,24 @@ module _ {R : Type 0} (m : Ghosts R) (start : StoredSession) (seed : ℕ) (lines
     before = going.progress
 
     -- the areas have the sizes that are kept
-    pub still-sized : (IsTold m old → All (IsSizedIn (m.areas old)) start.sets.modules) → IsTold m mid → All (IsSizedIn (m.areas mid)) session.sets.modules
+    pub still-sized : (IsTold m old → HasSizes start (m.areas old)) → IsTold m mid → HasSizes session (m.areas mid)
     still-sized sized told =
         let told_first : IsTold m old = sym going.goes_on.tells ∙ told in
-        sized-on start.sets.modules session.sets.modules (m.areas old) (m.areas mid) going.dimms going.sizes (going.goes_on.sizes told_first) (sized told_first)
+        sized-alike start session (m.areas old) (m.areas mid) going.alike (going.goes_on.sizes told_first) (sized told_first)
 
     -- the line as the session sees it is the one of the run
     command-in-run : (number : ℕ) (part : Part) (reply : Reply) (after : State) (labels : Labels)
         → SaysIfKnown session.platform part (IsCurrent m mid session) (Does session.platform (slots_of session) labels part (own_uuid seed number) reply after)
         → SaysIfKnown start.platform part known (Does start.platform (slots_of start) labels part (own_uuid seed number) reply after)
     command-in-run number part reply after labels does =
-        subst (λ (slots : ℕ → ℕ). SaysIfKnown start.platform part known (Does start.platform slots labels part (own_uuid seed number) reply after)) (slots-same start.sets session.sets going.dimms going.sizes)
+        subst (λ (slots : ℕ → ℕ). SaysIfKnown start.platform part known (Does start.platform slots labels part (own_uuid seed number) reply after)) (slots-alike start session going.alike)
         (subst (λ (platform : Platform). SaysIfKnown platform part known (Does platform (slots_of session) labels part (own_uuid seed number) reply after)) going.platform
         (says-on session.platform part (IsCurrent m mid session) known (Does session.platform (slots_of session) labels part (own_uuid seed number) reply after) going.through.current does))
 
     anyhow-in-run : (number : ℕ) (part : Part) (reply : Reply) (after : State) (labels : Labels)
         → DoesAnyhow session.platform (slots_of session) labels part (own_uuid seed number) reply after → DoesAnyhow start.platform (slots_of start) labels part (own_uuid seed number) reply after
     anyhow-in-run number part reply after labels does =
-        subst (λ (slots : ℕ → ℕ). DoesAnyhow start.platform slots labels part (own_uuid seed number) reply after) (slots-same start.sets session.sets going.dimms going.sizes)
+        subst (λ (slots : ℕ → ℕ). DoesAnyhow start.platform slots labels part (own_uuid seed number) reply after) (slots-alike start session going.alike)
         (subst (λ (platform : Platform). DoesAnyhow platform (slots_of session) labels part (own_uuid seed number) reply after) going.platform does)
 
     pub in-run : (number : ℕ) (line : Result (Option Command) WordFault) (reply : Option Reply) (after : State) → DoesOn (IsCurrent m mid session) session seed number line reply after → DoesLine known run number before.state line reply after
@@ -291,7 +287,6 @@ module _ {R : Type 0} (m : Ghosts R) (start : StoredSession) (seed : ℕ) (lines
             reads = reads-on now new (Ok is_refused) turn;
             unspent = turn.spends;
             platform = turn.platform ∙ going.platform;
-            dimms = turn.dimms ∙ going.dimms;
-            sizes = turn.sizes ∙ going.sizes;
+            alike = record { dimms = turn.alike.dimms ∙ going.alike.dimms; sizes = turn.alike.sizes ∙ going.alike.sizes };
             goes_on = goes_on going.goes_on turn.goes_on;
           }

@@ -1,6 +1,6 @@
 -- The bytes of areas over one line more.
 use Rattle.std.proofs.Common.{◌≡◌, ◌⊎◌, inl, inr, ℕ, zero, suc, Bool, true, false, ◌||◌, cond, List, [], ◌∷◌, ◌++◌, Option, Some, None, Result, Ok, Err, refl, sym, ap, ◌∙◌, subst}
-use Rattle.std.specs.Prelude.{◌==◌, slice_get, unwrap_or}
+use Rattle.std.specs.Prelude.{◌==◌, slice_get}
 use Rattle.std.specs.FinMap.{get}
 use Rattle.std.specs.List.{flat_map, list_any}
 use Rattle.std.specs.Option.{option_map_or}
@@ -9,10 +9,7 @@ use Rattle.std.proofs.lemmas.List.Folds.{list_any-append}
 use Rattle.std.proofs.lemmas.Option.{get_or_from_slice_get, slice_get_within}
 use Rattle.rig_trait.specs.Areas.{Areas, written}
 use Rattle.rig_trait.specs.Records.{CrashRecord}
-use Rattle.rig_trait.specs.TwoWrites.{with_both}
 use Rattle.rig_trait.proofs.WrittenAreas.{get-written}
-use Rattle.byte_ranges.specs.Ranges.{patched}
-use Rattle.index_block.specs.declared.geometry.Geometry.{Geometry}
 use Rattle.cmd_words.specs.declared.commands.Command.{Command}
 use Rattle.cmd_words.specs.declared.parts.Part.{Part}
 use Rattle.cmd_words.specs.Parts.{part_of}
@@ -97,23 +94,23 @@ fits-line lines k line is fits =
     subst (λ (l : List ℕ). LeavesLabels (command_in l)) (get_or_from_slice_get lines k line line is) (fits k line (slice_get_within lines k line is))
 
 -- an area is initialised alike where its bytes are the same
-get-both : (areas : Areas) (dimm first_at : ℕ) (first : List ℕ) (second_at : ℕ) (second : List ℕ)
-    → get (with_both areas dimm first_at first second_at second) dimm ≡ Some (patched (patched (unwrap_or (get areas dimm) []) first_at first) second_at second)
-get-both areas dimm first_at first second_at second =
-    get-written (written areas dimm first_at first) dimm second_at second
-    ∙ ap (λ (o : Option (List ℕ)). Some (patched (unwrap_or o []) second_at second)) (get-written areas dimm first_at first)
+written-alike : (areas mid : Areas) (dimm at : ℕ) (put : List ℕ) → get mid dimm ≡ get areas dimm → get (written mid dimm at put) dimm ≡ get (written areas dimm at put) dimm
+written-alike areas mid dimm at put same =
+    let then = get-written mid dimm at put in
+    let before = get-written areas dimm at put in
+    cc
 
-same-blocks : (areas mid : Areas) (dimm : ℕ) → get mid dimm ≡ get areas dimm → (layout : Option Geometry)
-    → get (option_map_or (λ g. with_blocks g mid dimm) layout mid) dimm ≡ get (option_map_or (λ g. with_blocks g areas dimm) layout areas) dimm
-same-blocks areas mid dimm same None = same
-same-blocks areas mid dimm same (Some g) =
-    get-both mid dimm 0 (first_block g) g.block (second_block g)
-    ∙ ap (λ (o : Option (List ℕ)). Some (patched (patched (unwrap_or o []) 0 (first_block g)) g.block (second_block g))) same
-    ∙ sym (get-both areas dimm 0 (first_block g) g.block (second_block g))
+laid-alike : {G : Type 0} (lay : G → Areas → Areas) (areas mid : Areas) (dimm : ℕ) → get mid dimm ≡ get areas dimm → ((g : G) → get (lay g mid) dimm ≡ get (lay g areas) dimm)
+    → (layout : Option G) → get (option_map_or (λ g. lay g mid) layout mid) dimm ≡ get (option_map_or (λ g. lay g areas) layout areas) dimm
+laid-alike lay areas mid dimm same alike None = same
+laid-alike lay areas mid dimm same alike (Some g) = alike g
 
 initialised-same : (areas mid : Areas) (dimm : ℕ) → get mid dimm ≡ get areas dimm → get (initialised dimm mid) dimm ≡ get (initialised dimm areas) dimm
 initialised-same areas mid dimm same =
-    ap (λ (o : Option (List ℕ)). get (option_map_or (λ g. with_blocks g mid dimm) (layout_of o) mid) dimm) same ∙ same-blocks areas mid dimm same (layout_of (get areas dimm))
+    ap (λ (o : Option (List ℕ)). get (option_map_or (λ g. with_blocks g mid dimm) (layout_of o) mid) dimm) same
+    ∙ laid-alike (λ g now. with_blocks g now dimm) areas mid dimm same
+    (λ g. written-alike (written areas dimm 0 (first_block g)) (written mid dimm 0 (first_block g)) dimm g.block (second_block g) (written-alike areas mid dimm 0 (first_block g) same))
+    (layout_of (get areas dimm))
 
 -- and is not Uninit then
 not-again : (areas : Areas) (dimm : ℕ) → area_kind (get areas dimm) ≡ Uninit → area_kind (get (initialised dimm areas) dimm) ≡ Uninit → ⊥

@@ -1,4 +1,6 @@
 pub mod Commands
+pub mod Known
+pub mod Past
 pub mod Records
 pub mod Applied
 pub mod Said

@@ -16,7 +16,7 @@ use Rattle.label_codec.specs.declared.kind.AreaKind.TheVariants.{Uninit}
 use Rattle.region_map.specs.declared.platform.Platform.{Platform}
 use Rattle.report_json.specs.Texts.{is_one_line, reply_text}
 use Rattle.report_json.proofs.Ends.{ended}
-use Rattle.namespace_core.specs.Sessions.{IsCurrent, StoredSession, state_of}
+use Rattle.namespace_core.specs.Sessions.{HasTable, IsCurrent, StoredSession, state_of}
 use Rattle.view_types.specs.declared.reply.Reply.{Reply}
 use Rattle.view_types.specs.Replies.{is_refusal}
 use Rattle.view_types.specs.declared.word_fault.WordFault.{WordFault}
@@ -24,11 +24,12 @@ use Rattle.command_runs.specs.declared.faults.LineFault.{LineFault}
 use Rattle.command_runs.specs.declared.faults.LineFault.TheVariants.{Area, Memory, Say}
 use Rattle.command_runs.specs.Areas.{KeepsAreas, LeavesAreas, LeavesLabels, changed_by_line, initialised_by_line}
 use Rattle.command_runs.specs.LastWrites.{WritesNoMore}
-use Rattle.command_runs.specs.Replies.{Tells, TellsReply}
-use Rattle.command_runs.specs.Stops.{HasTable}
+use Rattle.command_runs.specs.Replies.{TellsReply}
+use Rattle.run_edges.specs.Saying.{Tells}
 use Rattle.command_runs.specs.Turns.{Answers, IsTurned, LeftSaying, LeftUnsaid, SaysAll, SaysFront, Turns}
 use Rattle.command_runs.proofs.Commands.{list-unchanged}
-use Rattle.command_runs.proofs.Records.{read-only, same-most, says-nothing-written, still-current, table-is}
+use Rattle.command_runs.proofs.Records.{read-only, same-most, says-nothing-written}
+use Rattle.namespace_core.proofs.Alike.{still-current, table-is}
 
 -- what a stop leaves of areas is the same while something is said
 pub LeavesAreas-same : (platform : Platform) (named : List ℕ) (areas : Areas) (from c : CrashRecord) → c.areas ≡ from.areas → c.torn ≡ from.torn → LeavesAreas platform named areas from → LeavesAreas platform named areas c
@@ -72,8 +73,7 @@ module _ {R : Type 0} (m : Ghosts R) (session : StoredSession) (seed number : �
       reads = a.reads;
       spends = a.spends;
       platform = a.platform;
-      dimms = a.dimms;
-      sizes = a.sizes;
+      alike = a.alike;
       goes_on = a.nothing.goes_on;
     }
     turns-fault Memory a = record {
@@ -86,8 +86,7 @@ module _ {R : Type 0} (m : Ghosts R) (session : StoredSession) (seed number : �
       reads = a.reads;
       spends = a.spends;
       platform = a.platform;
-      dimms = a.dimms;
-      sizes = a.sizes;
+      alike = a.alike;
       goes_on = a.nothing.goes_on;
     }
     turns-fault Say a = absurd (let differ : true ≡ false = a.not_say in cc)
@@ -104,8 +103,7 @@ module _ {R : Type 0} (m : Ghosts R) (session : StoredSession) (seed number : �
       reads = a.reads;
       spends = a.spends;
       platform = a.platform;
-      dimms = a.dimms;
-      sizes = a.sizes;
+      alike = a.alike;
       goes_on = a.nothing.goes_on;
     }
 
@@ -192,8 +190,7 @@ module _ {R : Type 0} (m : Ghosts R) (session : StoredSession) (seed number : �
     reads = λ none. tells.says_only.reads ∙ a.reads none;
     spends = a.spends;
     platform = a.platform;
-    dimms = a.dimms;
-    sizes = a.sizes;
+    alike = a.alike;
     goes_on = goes_on a.nothing.goes_on tells.says_only.goes_on;
   }
 
@@ -214,8 +211,7 @@ module _ {R : Type 0} (m : Ghosts R) (session : StoredSession) (seed number : �
     reads = λ none. tells.says_only.reads ∙ a.reads none;
     spends = a.spends;
     platform = a.platform;
-    dimms = a.dimms;
-    sizes = a.sizes;
+    alike = a.alike;
     goes_on = goes_on a.nothing.goes_on tells.says_only.goes_on;
   }
 

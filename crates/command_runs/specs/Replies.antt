@@ -1,18 +1,11 @@
 -- How a reply is said.
-use Rattle.std.specs.Prelude.{◌≡◌, ℕ, Bool, true, false, List, ◌++◌, take, Result, Ok, Err}
+use Rattle.std.specs.Prelude.{◌≡◌, ℕ, true, false, List, Result, Ok, Err}
 use Rattle.rig_trait.specs.declared.shown.Shown.{Ghosts}
-use Rattle.rig_trait.specs.Frames.{IsTold, SayLeaves, SaysOnly}
 use Rattle.report_json.specs.Texts.{is_one_line, reply_text}
+use Rattle.run_edges.specs.Saying.{Tells}
 use Rattle.view_types.specs.declared.reply.Reply.{Reply}
 use Rattle.command_runs.specs.declared.faults.LineFault.{LineFault}
 use Rattle.command_runs.specs.declared.faults.LineFault.TheVariants.{Area, Memory, Say}
-
--- A text is said: all of it, or a front of it where the rig failed. No area is asked for anything.
-pub record Tells {R : Type 0} (m : Ghosts R) (old new : R) (text : List ℕ) (failed : Bool) : Type 0 where
-  pub whole : IsTold m old → failed ≡ false → m.said new ≡ m.said old ++ text
-  pub front : IsTold m old → (count : ℕ) × (m.said new ≡ m.said old ++ take count text)
-  pub says_only : SaysOnly m old new failed
-  pub stops : SayLeaves m old new text
 
 -- the answer of a call that says a text
 abbrev pub TellsText : {R T : Type 0} → Ghosts R → R → R → List ℕ → Result T LineFault → Type 0

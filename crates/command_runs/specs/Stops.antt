@@ -3,16 +3,10 @@ use Rattle.std.specs.Prelude.{◌≡◌, ◌⊎◌, ℕ, ◌<◌, List, ◌++◌
 use Rattle.rig_trait.specs.Areas.{Areas}
 use Rattle.rig_trait.specs.Records.{CrashRecord}
 use Rattle.label_area.specs.Fair.{IsFair}
-use Rattle.region_map.specs.declared.platform.Platform.{Platform}
-use Rattle.label_table.specs.Tables.{State, table}
-use Rattle.module_flips.specs.Stored.{stored_labels}
+use Rattle.namespace_core.specs.Sessions.{HasTable}
 use Rattle.command_runs.specs.Runs.{DoesNext, IsBehind, Progress, Run}
 
--- areas stand for the table of a state
-abbrev pub HasTable : Platform → State → Areas → Type 0
-HasTable platform state areas = table platform (stored_labels platform.modules areas) ≡ state.table
-
--- they stand for the table behind the line that follows
+-- areas stand for the table behind the line that follows
 pub record HasNextTable (known : Type 0) (run : Run) (k : ℕ) (progress : Progress) (areas : Areas) : Type 0 where
   pub next : Progress
   pub does : DoesNext known run k progress next

@@ -8,9 +8,8 @@ use Rattle.rig_trait.specs.Records.{CrashRecord}
 use Rattle.cmd_words.specs.declared.commands.Command.{Command}
 use Rattle.label_area.specs.Fair.{IsFair}
 use Rattle.label_table.specs.Tables.{State}
-use Rattle.region_labels.specs.Modules.{dimm_of, size_in}
 use Rattle.namespace_core.specs.Commands.{has_module}
-use Rattle.namespace_core.specs.Sessions.{IsCurrent, StoredSession, state_of}
+use Rattle.namespace_core.specs.Sessions.{HasTable, IsAlike, IsCurrent, StoredSession, state_of}
 use Rattle.namespace_core.specs.declared.faults.RunFault.{RunFault}
 use Rattle.namespace_core.specs.declared.faults.RunFault.TheVariants as faults
 use Rattle.view_types.specs.declared.reply.Reply.{Reply}
@@ -23,7 +22,6 @@ use Rattle.command_runs.specs.Ends.{run_of}
 use Rattle.command_runs.specs.Faults.{HasAreaFaults, HasCause, IsAmong, fails_at, is_area, is_say}
 use Rattle.command_runs.specs.LastWrites.{WritesNoMore}
 use Rattle.command_runs.specs.Runs.{DoesLine, Run, is_change_if, is_refusal_if, text_if}
-use Rattle.command_runs.specs.Stops.{HasTable}
 
 -- the answer that a session gave; one that is not spent never answers `Spent`
 abbrev pub answer_by : Result Reply RunFault → Result (Option Reply) LineFault
@@ -95,8 +93,7 @@ pub record Answers {R : Type 0} (m : Ghosts R) (session : StoredSession) (seed n
   pub reads : initialised_by_line session.platform line ≡ [] → m.reads new ≡ m.reads old
   pub spends : now.spent ≡ is_area answer
   pub platform : now.platform ≡ session.platform
-  pub dimms : map dimm_of now.sets.modules ≡ map dimm_of session.sets.modules
-  pub sizes : map size_in now.sets.modules ≡ map size_in session.sets.modules
+  pub alike : IsAlike session now
 
 -- A line is done, and so much of its reply was said.
 pub record IsTurned {R : Type 0} (m : Ghosts R) (session : StoredSession) (seed number : ℕ)
@@ -171,6 +168,5 @@ pub record Turns {R : Type 0} (m : Ghosts R) (session : StoredSession) (seed num
   pub reads : initialised_by_line session.platform line ≡ [] → m.reads new ≡ m.reads old
   pub spends : now.spent ≡ is_area result
   pub platform : now.platform ≡ session.platform
-  pub dimms : map dimm_of now.sets.modules ≡ map dimm_of session.sets.modules
-  pub sizes : map size_in now.sets.modules ≡ map size_in session.sets.modules
+  pub alike : IsAlike session now
   pub goes_on : GoesOn m old new

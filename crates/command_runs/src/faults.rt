@@ -1,5 +1,11 @@
 //! Why a list of lines is not done to its end.
 
+ghost use Rattle.std.specs.Prelude.{◌≡◌};
+ghost use Rattle.command_runs.specs.declared.faults.LineFault.TheVariants.{Memory, Say};
+
+use rig_trait::Failed;
+use std::alloc::AllocError;
+
 /// The fault that ends a list of lines.
 #[derive(Clone, Copy, Debug, PartialEq, Eq)]
 pub enum LineFault {
@@ -10,4 +16,21 @@ pub enum LineFault {
     Memory,
     /// A reply could not be said whole. Its command is done.
     Say,
+}
+
+impl From<AllocError> for LineFault {
+    ghost from_gives = { λ _ fault. fault ≡ Memory };
+
+    fn from(_: AllocError) -> LineFault {
+        LineFault::Memory
+    }
+}
+
+/// The output failed.
+impl From<Failed> for LineFault {
+    ghost from_gives = { λ _ fault. fault ≡ Say };
+
+    fn from(_: Failed) -> LineFault {
+        LineFault::Say
+    }
 }

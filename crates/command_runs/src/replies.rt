@@ -6,7 +6,7 @@ ghost use Rattle.view_types.specs.Replies.{is_refusal};
 
 use crate::faults::LineFault;
 use report_json::{line_of, reply_text};
-use rig_trait::{Failed, Rig};
+use rig_trait::Rig;
 use std::alloc::Global;
 use view_types::Reply;
 
@@ -18,20 +18,15 @@ pub fn say_reply<R: Rig>(alloc: Global, rig: &mut R, reply: &Reply) -> Result<()
     if let Some(line) = line_of(reply) {
         return say(rig, line.as_bytes());
     }
-    match reply_text(alloc, reply) {
-        Ok(text) => say(rig, &text),
-        Err(_) => Err(LineFault::Memory),
-    }
+    let text = reply_text(alloc, reply)?;
+    say(rig, &text)
 }
 
 /// Says a text.
 fn say<R: Rig>(rig: &mut R, text: &[u8]) -> Result<(), LineFault>
     ensures { TellsText R.Shown rig.old rig.new text.now result }
 {
-    match rig.say(text) {
-        Ok(()) => Ok(()),
-        Err(Failed) => Err(LineFault::Say),
-    }
+    Ok(rig.say(text)?)
 }
 
 /// Whether a reply is a refusal.

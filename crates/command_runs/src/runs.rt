@@ -1,11 +1,9 @@
 //! The lines of a list, one after the other.
 
 ghost use Rattle.std.specs.Prelude.{◌≡◌, [], false, map};
-ghost use Rattle.std.specs.List.{All};
 ghost use Rattle.rig_trait.specs.Frames.{GoesOn, IsTold, LeavesOnly};
-ghost use Rattle.module_flips.specs.Flips.{IsSizedIn};
 ghost use Rattle.namespace_core.specs.Commands.{has_module};
-ghost use Rattle.namespace_core.specs.Sessions.{IsCurrent};
+ghost use Rattle.namespace_core.specs.Sessions.{HasSizes, IsCurrent};
 ghost use Rattle.command_runs.specs.Areas.{KeepsBytes, LeaveLabels, LeavesBytes, initialised_by};
 ghost use Rattle.command_runs.specs.Ends.{Ends, run_of};
 ghost use Rattle.command_runs.specs.Faults.{HasCause, IsAmong, fails_at, is_area};
@@ -31,7 +29,7 @@ pub fn run_lines<R: Rig>(
     seed: u128,
 ) -> Result<bool, LineFault>
     requires unspent { session.old.spent ≡ false }
-    requires sized { IsTold R.Shown rig.old → All (IsSizedIn (R.areas rig.old)) session.old.sets.modules }
+    requires sized { IsTold R.Shown rig.old → HasSizes session.old (R.areas rig.old) }
 
     // The replies and the state are those of the lines. What `init-labels` replies is promised where the areas are
     // known to be those that are kept.
@@ -65,10 +63,8 @@ pub fn run_lines<R: Rig>(
 {
     let mut refused = false;
     for (index, line) in lines.iter().enumerate() {
-        match turn(alloc, rig, session, line, seed, index as u64 + 1) {
-            Ok(is_refused) => refused = refused || is_refused,
-            Err(fault) => return Err(fault),
-        }
+        let is_refused = turn(alloc, rig, session, line, seed, index as u64 + 1)?;
+        refused = refused || is_refused;
     }
     Ok(refused)
 }

@@ -1,11 +1,10 @@
 //! One line: its command is done, and its reply said.
 
 ghost use Rattle.std.specs.Prelude.{◌≡◌, false};
-ghost use Rattle.std.specs.List.{All};
 ghost use Rattle.rig_trait.specs.Frames.{IsTold};
 ghost use Rattle.cmd_words.specs.Lines.{command_in};
-ghost use Rattle.module_flips.specs.Flips.{IsSizedIn};
 ghost use Rattle.namespace_core.specs.Faults.{IsSpent};
+ghost use Rattle.namespace_core.specs.Sessions.{HasSizes};
 ghost use Rattle.command_runs.specs.Turns.{Answers, Turns, answer_by};
 
 use crate::faults::LineFault;
@@ -28,16 +27,15 @@ pub fn turn<R: Rig>(
     number: u64,
 ) -> Result<bool, LineFault>
     requires unspent { session.old.spent ≡ false }
-    requires sized { IsTold R.Shown rig.old → All (IsSizedIn (R.areas rig.old)) session.old.sets.modules }
+    requires sized { IsTold R.Shown rig.old → HasSizes session.old (R.areas rig.old) }
     ensures { Turns R.Shown session.old seed number (command_in line.now) rig.old session.new rig.new result }
 {
-    match answer(alloc, rig, session, line, seed, number) {
-        Ok(Some(reply)) => match say_reply(alloc, rig, &reply) {
-            Ok(()) => Ok(is_refused(&reply)),
-            Err(fault) => Err(fault),
-        },
-        Ok(None) => Ok(false),
-        Err(fault) => Err(fault),
+    match answer(alloc, rig, session, line, seed, number)? {
+        Some(reply) => {
+            say_reply(alloc, rig, &reply)?;
+            Ok(is_refused(&reply))
+        }
+        None => Ok(false),
     }
 }
 
@@ -52,7 +50,7 @@ fn answer<R: Rig>(
     number: u64,
 ) -> Result<Option<Reply>, LineFault>
     requires unspent { session.old.spent ≡ false }
-    requires sized { IsTold R.Shown rig.old → All (IsSizedIn (R.areas rig.old)) session.old.sets.modules }
+    requires sized { IsTold R.Shown rig.old → HasSizes session.old (R.areas rig.old) }
     ensures { Answers R.Shown session.old seed number (command_in line.now) rig.old session.new rig.new result }
 {
     match read_line(line) {

@@ -1,4 +1,5 @@
 pub mod Found
+pub mod Alike
 pub mod Telling
 pub mod Standing
 pub mod Changing

@@ -2,6 +2,7 @@ pub mod Commands
 pub mod Faults
 pub mod Done
 pub mod Sessions
+pub mod Left
 pub mod Codes
 pub mod Kept
 pub mod Success

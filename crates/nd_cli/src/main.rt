@@ -1,8 +1,9 @@
 //! The program `nd`: commands over the files of a folder.
 #![tactic(auto)]
 
-use nd_top::{Status, dir, nd_top};
+use nd_top::{dir, nd_top};
 use rig_trait::{FileRig, FileSource, StdSource};
+use run_edges::Status;
 use std::alloc::{AllocError, Global};
 use std::env;
 use std::io::ErrorKind;

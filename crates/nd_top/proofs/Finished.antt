@@ -11,7 +11,7 @@ use Rattle.rig_trait.proofs.Moments.{and_a_call, joined, weakened}
 use Rattle.label_area.proofs.FairRecords.{IsFair-same}
 use Rattle.region_map.specs.declared.platform.Platform.{Platform}
 use Rattle.namespace_core.specs.Commands.{has_module}
-use Rattle.namespace_core.specs.Sessions.{IsCurrent, StoredSession, slots_of, state_of, stored_slots}
+use Rattle.namespace_core.specs.Sessions.{HasTable, IsCurrent, StandFor, StoredSession, slots_of, state_of, stored_slots}
 use Rattle.command_runs.proofs.Records.{says-nothing-written}
 use Rattle.command_runs.proofs.Said.{LeavesAreas-same}
 use Rattle.command_runs.specs.declared.faults.LineFault.{LineFault}
@@ -22,16 +22,16 @@ use Rattle.command_runs.specs.LastWrites.{IsPastChanges, WritesNoMore}
 use Rattle.command_runs.specs.Ends.{EndsWrites, IsCutShort, IsFinished, IsStopped, IsUnchanged, run_of}
 use Rattle.command_runs.specs.Faults.{HasAreaFaults, HasCause, IsAmong, fails_at, is_say}
 use Rattle.command_runs.specs.Runs.{IsBehind, Progress, Run}
-use Rattle.command_runs.specs.Stops.{HasNextTable, HasTable, IsBetween, IsLeft}
-use Rattle.nd_top.specs.declared.faults.Fault.{Fault}
-use Rattle.nd_top.specs.declared.faults.Fault.TheVariants.{Area, Memory}
-use Rattle.nd_top.specs.Runs.{AreRun, EndsBy, IsCutOff, IsDone, IsEnded, SaysEnd, StandFor, WantsMemory}
-use Rattle.nd_top.specs.Saying.{Says}
-use Rattle.nd_top.specs.Statuses.{fault_status, refused_status}
+use Rattle.command_runs.specs.Stops.{HasNextTable, IsBetween, IsLeft}
+use Rattle.command_runs.proofs.Known.{behind-known, next-known, next_table-known, past-known, past-line}
+use Rattle.command_runs.proofs.Past.{never-past}
+use Rattle.run_edges.specs.declared.faults.Fault.{Fault}
+use Rattle.run_edges.specs.declared.faults.Fault.TheVariants.{Area, Memory}
+use Rattle.run_edges.specs.Saying.{Says, SaysLine}
+use Rattle.run_edges.specs.Statuses.{fault_status, refused_status}
+use Rattle.run_edges.specs.Texts.{fault_line}
+use Rattle.nd_top.specs.Runs.{AreRun, EndsBy, IsCutOff, IsDone, IsEnded, Leaves, SaysEnd, WantsMemory}
 use Rattle.nd_top.specs.Stops.{IsLeftOf, SaysFault}
-use Rattle.nd_top.specs.Texts.{fault_line}
-use Rattle.nd_top.proofs.Known.{behind-known, next-known, next_table-known, past-known, past-line}
-use Rattle.nd_top.proofs.Past.{never-past}
 use Rattle.nd_top.proofs.Started.{bytes_left_run, bytes_run, current_state, faults_behind, faults_said, kept_run, left_run, slots_are, start_is}
 
 -- what is said at last changes nothing of what was written
@@ -114,7 +114,7 @@ module _ {R : Type 0} (m : Ghosts R) (old start mid : R) (session after : Stored
   }
 
   module _ (new : R) (fault : Fault) (k : ℕ) (progress : Progress) (status : ℕ) (stopped : IsStopped m known run k progress start mid) (behind : IsBehind known run k progress)
-      (says : Says m mid new (fault_line fault) (fault_status fault) status) where
+      (says : SaysLine m mid new fault status) where
     -- the line of a fault is said behind the replies
     abbrev ended : k < length lines → m.say_faults mid ≡ m.say_faults start → IsEnded m run fault old new status
     ended more say_faults = record {
@@ -131,7 +131,7 @@ module _ {R : Type 0} (m : Ghosts R) (old start mid : R) (session after : Stored
       say_faults = says.tells.says_only.say_faults ∙ ap (counted says.failed) (say_faults ∙ read.say_faults);
     }
 
-    saying_fault : told → (c : CrashRecord) → IsSaying (m.may_leave mid) (m.said mid) (fault_line fault) c → SaysFault told run (m.said old) c
+    saying_fault : told → (c : CrashRecord) → IsSaying (m.may_leave mid) (m.said mid) (fault_line fault) c → SaysFault told run fault (m.said old) c
     saying_fault tells c saying =
         let from = saying.from in
         let between = stopped.left (current tells) from saying.was in
@@ -139,29 +139,28 @@ module _ {R : Type 0} (m : Ghosts R) (old start mid : R) (session after : Stored
           acknowledged = k;
           progress = progress;
           behind = behind-known known told current run k progress behind;
-          fault = fault;
           count = saying.count;
           said_is = saying.said_is ∙ ap (λ (said : List ℕ). said ++ take saying.count (fault_line fault)) (said_behind progress stopped.said_is tells);
           areas_are = λ fair. rw saying.areas_are (⊎_elim inl (λ next. inr (next_table-known known told current run k progress from.areas next))
               (between.areas_are (IsFair-same c from (sym saying.areas_are) (sym saying.torn_is) fair)));
         }
 
-    left_ended : told → LeavesOnly m old new (IsLeftOf told run (m.said old))
+    left_ended : told → LeavesOnly m old new (IsLeftOf told run fault (m.said old))
     left_ended tells =
-        and_a_call (IsLeftOf told run (m.said old)) (IsSaying (m.may_leave mid) (m.said mid) (fault_line fault))
-        (weakened (IsLeft told run (m.said old)) (IsLeftOf told run (m.said old)) (λ c left. inl left) (left_run m old start session seed lines read current mid any_moment tells)) says.tells.stops
+        and_a_call (IsLeftOf told run fault (m.said old)) (IsSaying (m.may_leave mid) (m.said mid) (fault_line fault))
+        (weakened (IsLeft told run (m.said old)) (IsLeftOf told run fault (m.said old)) (λ c left. inl left) (left_run m old start session seed lines read current mid any_moment tells)) says.tells.stops
         (λ c saying. inr (saying_fault tells c saying))
 
     are_ended : (outcome : Result Bool LineFault) → EndsBy m run old new status outcome → HasAreaFaults m old mid outcome → IsAmong (has_module session.platform) outcome
-        → (told → KeepsBytes (fails_at outcome) session.platform lines (m.areas old) (m.areas mid)) → AreRun m run old new status
-    are_ended outcome ends faults among bytes = record {
+        → (told → KeepsBytes (fails_at outcome) session.platform lines (m.areas old) (m.areas mid)) → (told → Leaves m run old new outcome) → AreRun m run old new status
+    are_ended outcome ends faults among bytes left = record {
       start_is = start_is m old start session seed lines read current;
       slots_are = slots_are m old start session seed lines read current;
       outcome = outcome;
       ends = ends;
       faults = faults_said m old mid new outcome says.failed faults says.tells.says_only;
       among = among;
-      any_moment = left_ended;
+      any_moment = left;
       bytes = λ tells. subst (λ (areas : Areas). KeepsBytes (fails_at outcome) session.platform lines (m.areas old) areas) (sym says.tells.says_only.areas) (bytes tells);
       bytes_left = λ tells none. bytes_said m old mid new (fault_line fault) (fault_status fault) status session.platform lines
           (bytes_left_run m old start session seed lines read current mid bytes_left tells none) says;
@@ -169,15 +168,15 @@ module _ {R : Type 0} (m : Ghosts R) (old start mid : R) (session after : Stored
 
   -- nothing more is said
   are_done : (outcome : Result Bool LineFault) (status : ℕ) → EndsBy m run old mid status outcome → HasAreaFaults m old mid outcome → IsAmong (has_module session.platform) outcome
-      → (told → KeepsBytes (fails_at outcome) session.platform lines (m.areas old) (m.areas mid)) → AreRun m run old mid status
-  are_done outcome status ends faults among bytes = record {
+      → (told → KeepsBytes (fails_at outcome) session.platform lines (m.areas old) (m.areas mid)) → (told → Leaves m run old mid outcome) → AreRun m run old mid status
+  are_done outcome status ends faults among bytes left = record {
     start_is = start_is m old start session seed lines read current;
     slots_are = slots_are m old start session seed lines read current;
     outcome = outcome;
     ends = ends;
     faults = faults;
     among = among;
-    any_moment = λ tells. weakened (IsLeft told run (m.said old)) (IsLeftOf told run (m.said old)) (λ c left. inl left) (left_run m old start session seed lines read current mid any_moment tells);
+    any_moment = left;
     bytes = bytes;
     bytes_left = bytes_left_run m old start session seed lines read current mid bytes_left;
   }
@@ -186,15 +185,18 @@ module _ {R : Type 0} (m : Ghosts R) (old start mid : R) (session after : Stored
       → (known → KeepsBytes (fails_at outcome) session.platform lines (m.areas start) (m.areas mid)) → SaysEnd m mid new outcome status → AreRun m run old new status
   are_run new (Ok refused) status ends cause among bytes end =
       subst (λ (r : R). AreRun m run old r status) (sym end.0)
-      (are_done (Ok refused) status (done refused status ends cause.says end.1) (faults_behind m old start mid (Ok refused) fails cause.areas) among (bytes_run m old start session seed lines read current mid (Ok refused) bytes))
+      (are_done (Ok refused) status (done refused status ends cause.says end.1) (faults_behind m old start mid (Ok refused) fails cause.areas) among (bytes_run m old start session seed lines read current mid (Ok refused) bytes)
+      (left_run m old start session seed lines read current mid any_moment))
   are_run new (Err fault.Say) status ends cause among bytes end =
       subst (λ (r : R). AreRun m run old r status) (sym end.0)
       (are_done (Err fault.Say) status (cut_off ends.done ends.progress status ends.more ends.behind ends.ended ends.no_more cause.says end.1)
-      (faults_behind m old start mid (Err fault.Say) fails cause.areas) among (bytes_run m old start session seed lines read current mid (Err fault.Say) bytes))
+      (faults_behind m old start mid (Err fault.Say) fails cause.areas) among (bytes_run m old start session seed lines read current mid (Err fault.Say) bytes)
+      (left_run m old start session seed lines read current mid any_moment))
   are_run new (Err (fault.Area dimm)) status ends cause among bytes end =
       are_ended new (Area dimm) ends.done ends.progress status ends.ended ends.behind end (Err (fault.Area dimm))
       (ended new (Area dimm) ends.done ends.progress status ends.ended ends.behind end ends.more cause.says)
       (faults_behind m old start mid (Err (fault.Area dimm)) fails cause.areas) among (bytes_run m old start session seed lines read current mid (Err (fault.Area dimm)) bytes)
+      (left_ended new (Area dimm) ends.done ends.progress status ends.ended ends.behind end)
   are_run new (Err fault.Memory) status ends cause among bytes end =
       let unchanged = ends.ended in
       are_ended new Memory ends.done ends.progress status unchanged.stopped ends.behind end (Err fault.Memory)
@@ -212,3 +214,4 @@ module _ {R : Type 0} (m : Ghosts R) (old start mid : R) (session after : Stored
             end.tells.stops (λ c saying is. saying.areas_are ∙ (m.now_is mid saying.from saying.was).0 ∙ sym end.tells.says_only.areas);
       })
       (faults_behind m old start mid (Err fault.Memory) fails cause.areas) among (bytes_run m old start session seed lines read current mid (Err fault.Memory) bytes)
+      (left_ended new Memory ends.done ends.progress status unchanged.stopped ends.behind end)

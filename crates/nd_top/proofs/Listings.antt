@@ -17,11 +17,11 @@ use Rattle.label_area.specs.Faults.{is_load_failed}
 use Rattle.label_area.specs.LoadedAreas.{LoadedArea, block_of}
 use Rattle.label_area.specs.Loads.{IsFaultOf, IsShown, Loads}
 use Rattle.label_area.specs.Modules.{area_kind, module_at}
-use Rattle.label_listing.specs.Listing.{listing, loaded_listing}
+use Rattle.report_json.specs.Listing.{listing, loaded_listing}
 use Rattle.label_codec.specs.ModuleLabels.{Module}
 use Rattle.label_area.proofs.Shown.{ready_is}
 use Rattle.nd_top.specs.Labels.{IsAnswer, Lists, ListsLabels, Refuses, answer_of, is_failed, labels_answer, listing_answer, not_ready, status_of, text_of}
-use Rattle.nd_top.specs.Saying.{Says}
+use Rattle.run_edges.specs.Saying.{Says}
 
 -- an area that is not Ready has no current block
 current_block-none : (stored : Option (List ℕ)) → area_kind stored ≢ Ready → current_block stored ≡ None

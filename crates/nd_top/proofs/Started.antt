@@ -10,10 +10,9 @@ use Rattle.rig_trait.specs.Records.{CrashRecord}
 use Rattle.rig_trait.proofs.Frames.{reading}
 use Rattle.rig_trait.proofs.Moments.{joined, weakened}
 use Rattle.label_area.specs.Fair.{IsFair}
-use Rattle.label_table.specs.Tables.{State, state, table}
-use Rattle.module_flips.specs.Stored.{stored_labels}
+use Rattle.label_table.specs.Tables.{State, state}
 use Rattle.region_map.specs.declared.platform.Platform.{Platform}
-use Rattle.namespace_core.specs.Sessions.{IsCurrent, StoredSession, labels_of, slots_of, state_of, stored_slots}
+use Rattle.namespace_core.specs.Sessions.{HasTable, IsCurrent, StandFor, StoredSession, labels_of, slots_of, state_of, stored_slots}
 use Rattle.command_runs.proofs.Records.{read-only, writes-nothing}
 use Rattle.command_runs.specs.declared.faults.LineFault.{LineFault}
 use Rattle.command_runs.specs.declared.faults.LineFault.TheVariants.{Area, Memory, Say}
@@ -21,9 +20,8 @@ use Rattle.command_runs.specs.Areas.{KeepsBytes, LeaveLabels, LeavesBytes, Write
 use Rattle.command_runs.specs.Ends.{run_of}
 use Rattle.command_runs.specs.Faults.{HasAreaFaults, fails_at}
 use Rattle.command_runs.specs.Runs.{Run, at_start}
-use Rattle.command_runs.specs.Stops.{HasTable, IsLeft}
-use Rattle.nd_top.specs.Runs.{StandFor}
-use Rattle.nd_top.proofs.Known.{left-known}
+use Rattle.command_runs.specs.Stops.{IsLeft}
+use Rattle.command_runs.proofs.Known.{left-known}
 
 -- No call failed, and then what failed did.
 pub fails_behind : {R : Type 0} (m : Ghosts R) (dimm : ℕ) (old mid new : R) (failed : Bool) → FailsAt 0 m old mid false → FailsAt dimm m mid new failed → FailsAt dimm m old new failed

@@ -9,7 +9,7 @@ use Rattle.label_area.specs.declared.load.AreaFault.{AreaFault}
 use Rattle.label_area.specs.declared.load.AreaFault.TheVariants as load
 use Rattle.label_area.specs.Blocks.{current_block}
 use Rattle.label_area.specs.Modules.{area_kind, module_at}
-use Rattle.label_listing.specs.Listing.{listing}
+use Rattle.report_json.specs.Listing.{listing}
 use Rattle.label_codec.specs.declared.kind.AreaKind.{AreaKind}
 use Rattle.label_codec.specs.declared.kind.AreaKind.TheVariants as kinds
 use Rattle.report_json.specs.Refusals.{refusal_line}
@@ -18,9 +18,9 @@ use Rattle.view_types.specs.declared.refusal.Refusal.TheVariants.{NotReady}
 use Rattle.view_types.specs.declared.states.AreaState.{AreaState}
 use Rattle.view_types.specs.declared.states.AreaState.TheVariants as states
 use Rattle.view_types.specs.declared.states.Status.TheVariants as statuses
-use Rattle.nd_top.specs.declared.faults.Fault.TheVariants as faults
-use Rattle.nd_top.specs.Saying.{Says}
-use Rattle.nd_top.specs.Texts.{fault_line}
+use Rattle.run_edges.specs.declared.faults.Fault.TheVariants as faults
+use Rattle.run_edges.specs.Saying.{Says}
+use Rattle.run_edges.specs.Texts.{fault_line}
 
 -- the state of an area of a kind; nothing is told of the slots of a Ready one
 abbrev pub state_of : AreaKind → AreaState

@@ -1,10 +1,6 @@
 pub mod Words
-pub mod Texts
-pub mod Statuses
-pub mod Faults
-pub mod Saying
-pub mod Sources
 pub mod Labels
 pub mod Stops
 pub mod Runs
+pub mod Lines
 pub mod Ends

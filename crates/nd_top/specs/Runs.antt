@@ -1,34 +1,27 @@
 -- How lines end that are done on a platform, and what a stop leaves of them.
 use Rattle.std.specs.Prelude.{◌≡◌, ℕ, ◌<◌, Bool, true, false, List, [], ◌++◌, Result, Ok, Err, if◌then◌else◌, length}
 use Rattle.std.specs.Prelude.{take}
-use Rattle.rig_trait.specs.Areas.{Areas}
 use Rattle.rig_trait.specs.declared.shown.Shown.{Ghosts}
 use Rattle.rig_trait.specs.Faults.{counted}
-use Rattle.rig_trait.specs.Frames.{IsTold, LeavesOnly, Reads}
-use Rattle.label_table.specs.Tables.{State, state}
-use Rattle.module_flips.specs.Stored.{stored_labels}
+use Rattle.rig_trait.specs.Frames.{IsTold, LeavesOnly}
+use Rattle.label_table.specs.Tables.{State}
 use Rattle.region_map.specs.declared.platform.Platform.{Platform}
-use Rattle.namespace_core.specs.declared.faults.OpenFault.{OpenFault}
 use Rattle.namespace_core.specs.Commands.{has_module}
-use Rattle.namespace_core.specs.Faults.{HasOpenCause, IsOpenAmong}
-use Rattle.namespace_core.specs.Sessions.{StoredSession, stored_slots}
+use Rattle.namespace_core.specs.Sessions.{StandFor, stored_slots}
+use Rattle.run_edges.specs.declared.faults.Fault.{Fault}
+use Rattle.run_edges.specs.declared.faults.Fault.TheVariants as faults
+use Rattle.run_edges.specs.Saying.{SaysLine}
+use Rattle.run_edges.specs.Starting.{HasNoSession}
+use Rattle.run_edges.specs.Statuses.{fault_status, refused_status}
+use Rattle.run_edges.specs.Texts.{fault_line}
 use Rattle.command_runs.specs.declared.faults.LineFault.{LineFault}
 use Rattle.command_runs.specs.declared.faults.LineFault.TheVariants.{Area, Memory, Say}
 use Rattle.command_runs.specs.Areas.{KeepsBytes, LeaveLabels, LeavesBytes, WritesNothing}
 use Rattle.command_runs.specs.Faults.{HasAreaFaults, IsAmong, fails_at}
 use Rattle.command_runs.specs.LastWrites.{IsPastChanges, IsPastLine, WritesNoMore}
 use Rattle.command_runs.specs.Runs.{DoesNext, IsBehind, Progress, Run}
-use Rattle.nd_top.specs.declared.faults.Fault.{Fault}
-use Rattle.nd_top.specs.declared.faults.Fault.TheVariants as faults
-use Rattle.nd_top.specs.Faults.{fault_by}
-use Rattle.nd_top.specs.Saying.{Says}
-use Rattle.nd_top.specs.Statuses.{fault_status, refused_status}
+use Rattle.command_runs.specs.Stops.{IsLeft}
 use Rattle.nd_top.specs.Stops.{IsLeftOf}
-use Rattle.nd_top.specs.Texts.{fault_line}
-
--- the areas of the platform's modules stand for a state
-abbrev pub StandFor : Platform → Areas → State → Type 0
-StandFor platform areas now = state platform (stored_labels platform.modules areas) ≡ now
 
 -- All lines are done: all replies are said, and the areas stand for the state behind the last line.
 pub record IsDone {R : Type 0} (m : Ghosts R) (run : Run) (old new : R) (status : ℕ) : Type 0 where
@@ -92,12 +85,20 @@ EndsBy m run old new status (Err Say) = IsCutOff m run old new status
 EndsBy m run old new status (Err (Area dimm)) = IsEnded m run (faults.Area dimm) old new status
 EndsBy m run old new status (Err Memory) = WantsMemory m run old new status
 
+-- What a stop leaves of the run. A fault that ended it, and whose line is said, is no other in any record.
+abbrev pub Leaves : {R : Type 0} → Ghosts R → Run → R → R → Result Bool LineFault → Type 0
+Leaves m run old new (Ok refused) = LeavesOnly m old new (IsLeft (IsTold m old) run (m.said old))
+Leaves m run old new (Err Say) = LeavesOnly m old new (IsLeft (IsTold m old) run (m.said old))
+Leaves m run old new (Err (Area dimm)) =
+    LeavesOnly m old new (IsLeftOf (IsTold m old) run (faults.Area dimm) (m.said old))
+Leaves m run old new (Err Memory) = LeavesOnly m old new (IsLeftOf (IsTold m old) run faults.Memory (m.said old))
+
 -- what is said behind the lines, and the status
 abbrev pub SaysEnd : {R : Type 0} → Ghosts R → R → R → Result Bool LineFault → ℕ → Type 0
 SaysEnd m old new (Ok refused) status = (new ≡ old) × (status ≡ refused_status refused)
 SaysEnd m old new (Err Say) status = (new ≡ old) × (status ≡ 7)
-SaysEnd m old new (Err (Area dimm)) status = Says m old new (fault_line (faults.Area dimm)) 4 status
-SaysEnd m old new (Err Memory) status = Says m old new (fault_line faults.Memory) 6 status
+SaysEnd m old new (Err (Area dimm)) status = SaysLine m old new (faults.Area dimm) status
+SaysEnd m old new (Err Memory) status = SaysLine m old new faults.Memory status
 
 -- The lines are done from the state that the areas stand for, to the end or up to a fault. No call failed but the one
 -- that is the fault, and that which should have said its line.
@@ -109,22 +110,12 @@ pub record AreRun {R : Type 0} (m : Ghosts R) (run : Run) (old new : R) (status 
   pub faults : HasAreaFaults m old new outcome
   pub among : IsAmong (has_module run.platform) outcome
   -- The headline: a stop leaves the table behind the lines that are acknowledged, or behind one more.
-  pub any_moment : IsTold m old → LeavesOnly m old new (IsLeftOf (IsTold m old) run (m.said old))
+  pub any_moment : IsTold m old → Leaves m run old new outcome
   -- No other area is written, and `init-labels` writes its index blocks alone. A stop leaves them so where no line
   -- changes labels.
   pub bytes : IsTold m old → KeepsBytes (fails_at outcome) run.platform run.lines (m.areas old) (m.areas new)
   pub bytes_left : IsTold m old → LeaveLabels run.lines
       → LeavesOnly m old new (LeavesBytes run.platform run.lines (m.areas old))
-
--- The areas could not be read, or memory was refused there. Nothing was written, and then the line of the fault is
--- said.
-pub record IsUnstarted {R : Type 0} (m : Ghosts R) (platform : Platform) (old new : R) (status : ℕ) : Type 0 where
-  pub read : R
-  pub reads : Reads m old read
-  pub fault : OpenFault
-  pub faults : HasOpenCause {T = StoredSession} m old read (Err fault)
-  pub among : IsOpenAmong platform.modules fault
-  pub says : Says m read new (fault_line (fault_by fault)) (fault_status (fault_by fault)) status
 
 -- the run of these lines with a seed on a platform, from a state
 abbrev pub run_from : Platform → ℕ → List (List ℕ) → (ℕ → ℕ) → State → Run
@@ -133,6 +124,8 @@ run_from platform seed lines slots start =
 
 pub data EndsOn {R : Type 0} (m : Ghosts R) (seed : ℕ) (platform : Platform) (lines : List (List ℕ)) (old new : R)
     (status : ℕ) : Type 0 where
-  not_started : IsUnstarted m platform old new status → EndsOn m seed platform lines old new status
+  -- the areas could not be read, or memory was refused there: the line of the fault is said
+  not_started : (read : R) (fault : Fault) → HasNoSession m platform old read fault → SaysLine m read new fault status
+      → EndsOn m seed platform lines old new status
   ran : (slots : ℕ → ℕ) → (start : State) → AreRun m (run_from platform seed lines slots start) old new status
       → EndsOn m seed platform lines old new status

@@ -7,10 +7,8 @@ use Rattle.std.specs.Option.{option_map}
 use Rattle.std.specs.Str.{bytes_eq}
 use Rattle.cmd_words.specs.Numbers.{below, number}
 use Rattle.std.specs.String.{string_bytes}
-use Rattle.nd_top.specs.declared.words.Form.{Form}
-use Rattle.nd_top.specs.declared.words.Form.TheVariants.{Labels, Do, Run}
 use Rattle.nd_top.specs.declared.words.Request.{Request}
-use Rattle.nd_top.specs.declared.words.Request.TheVariants as requests
+use Rattle.nd_top.specs.declared.words.Request.TheVariants.{Labels, Line, Input}
 
 -- a word of the command line
 abbrev pub Word : Type 0
@@ -33,22 +31,32 @@ operands words = before_first is_dashes words ++ after_first is_dashes words
 abbrev pub handle : List ℕ → Option ℕ
 handle text = below (2 ^ 32) (number text)
 
+-- what the words of a run ask for: the labels of a module, or that one line is done, or those of the input
+pub data Asked : Type 0 where
+  LabelsOf : (dimm : ℕ) → Asked
+  DoLine : (line : List ℕ) → Asked
+  RunInput : Asked
+
 -- `labels DIR HANDLE`: exactly three words
-abbrev pub labels_form : List Word → Option Form
+abbrev pub labels_form : List Word → Option Asked
 labels_form (command ∷ dir ∷ module_handle ∷ []) =
     if bytes_eq (string_bytes command) (codes "labels")
-    then option_map Labels (handle (string_bytes module_handle))
+    then option_map LabelsOf (handle (string_bytes module_handle))
     else None
 labels_form _ = None
 
+-- the line of `do`: the words behind the folder, with a space between each two
+abbrev pub line_of : List Word → List ℕ
+line_of operands = join_by string_bytes (codes " ") (drop 2 operands)
+
 -- `do DIR WORD...`: three words or more
-abbrev pub do_form : List Word → Option Form
-do_form (command ∷ dir ∷ word ∷ words) = Some Do
+abbrev pub do_form : List Word → Option Asked
+do_form (command ∷ dir ∷ word ∷ words) = Some (DoLine (line_of (command ∷ dir ∷ word ∷ words)))
 do_form _ = None
 
 -- `run DIR`: exactly two words
-abbrev pub run_form : List Word → Option Form
-run_form (command ∷ dir ∷ []) = Some Run
+abbrev pub run_form : List Word → Option Asked
+run_form (command ∷ dir ∷ []) = Some RunInput
 run_form _ = None
 
 abbrev pub is_command : List ℕ → List Word → Bool
@@ -56,44 +64,26 @@ is_command name [] = false
 is_command name (command ∷ words) = bytes_eq (string_bytes command) name
 
 -- The first of the words without a first `--` says which form they may be.
-abbrev pub operands_form : List Word → Option Form
+abbrev pub operands_form : List Word → Option Asked
 operands_form words =
     if is_command (codes "do") words then do_form words
     else if is_command (codes "run") words then run_form words
     else labels_form words
 
 -- Before a first `--` no word may be an option. All words behind it are taken as they are.
-abbrev pub form_in : List Word → List Word → Option Form
+abbrev pub form_in : List Word → List Word → Option Asked
 form_in front back = if list_any is_option front then None else operands_form (front ++ back)
 
-abbrev pub form_of : List Word → Option Form
-form_of words = form_in (before_first is_dashes words) (after_first is_dashes words)
+-- what the words ask for, and none where they are no form
+abbrev pub asked : List Word → Option Asked
+asked words = form_in (before_first is_dashes words) (after_first is_dashes words)
+
+-- what a request asks for
+abbrev pub asked_as : Request → Asked
+asked_as (Labels dimm) = LabelsOf dimm
+asked_as (Line front back) = DoLine (line_of (front.now ++ back.now))
+asked_as Input = RunInput
 
 -- the folder: the second word without a first `--`, or `.` where there are fewer than two
 abbrev pub dir_of : List Word → List ℕ
 dir_of words = unwrap_or (option_map string_bytes (slice_get (operands words) 1)) (codes ".")
-
--- the line of `do`: the words behind the folder, with a space between each two
-abbrev pub line_of : List Word → List ℕ
-line_of operands = join_by string_bytes (codes " ") (drop 2 operands)
-
--- what the words of a run ask for: the labels of a module, or that one line is done, or those of the input
-pub data Asked : Type 0 where
-  LabelsOf : (dimm : ℕ) → Asked
-  DoLine : (line : List ℕ) → Asked
-  RunInput : Asked
-
-abbrev pub asked_by : Option Form → List Word → Option Asked
-asked_by None operands = None
-asked_by (Some (Labels dimm)) operands = Some (LabelsOf dimm)
-asked_by (Some Do) operands = Some (DoLine (line_of operands))
-asked_by (Some Run) operands = Some RunInput
-
--- what they ask for, and none where they are no form
-abbrev pub asked : List Word → Option Asked
-asked words = asked_by (form_of words) (operands words)
-
-abbrev pub asked_in : Request → Asked
-asked_in (requests.Labels dimm) = LabelsOf dimm
-asked_in (requests.Line line) = DoLine (string_bytes line)
-asked_in requests.Input = RunInput

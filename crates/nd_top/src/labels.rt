@@ -5,16 +5,13 @@ ghost use Rattle.rig_trait.specs.Frames.{FailsAt, IsTold, Reads};
 ghost use Rattle.label_area.specs.Faults.{is_load_failed};
 ghost use Rattle.label_area.specs.LoadedAreas.{LoadedArea};
 ghost use Rattle.nd_top.specs.Labels.{ListsLabels, answer_of, not_ready, state_of, status_of, text_of};
-ghost use Rattle.nd_top.specs.Saying.{Says};
+ghost use Rattle.run_edges.specs.Saying.{Says};
 
-use crate::faults::Fault;
-use crate::saying::{say, say_fault};
-use crate::statuses::Status;
 use label_area::{Area, AreaFault};
 use label_codec::AreaKind;
-use label_listing::listing;
-use report_json::refusal_line;
+use report_json::{listing, refusal_line};
 use rig_trait::Rig;
+use run_edges::{Fault, Status, say, say_fault};
 use std::alloc::Global;
 use view_types::{AreaState, Refusal};
 

@@ -5,13 +5,10 @@ ghost use Rattle.region_map.specs.Platforms.{IsSound};
 ghost use Rattle.rig_trait.specs.Frames.{GoesOn};
 ghost use Rattle.nd_top.specs.Runs.{EndsOn, SaysEnd};
 
-use crate::faults::{Fault, start_fault};
-use crate::saying::say_fault;
-use crate::statuses::Status;
 use command_runs::{LineFault, run_lines};
-use namespace_core::Session;
 use region_map::Platform;
 use rig_trait::Rig;
+use run_edges::{Fault, Status, say_fault, start_session};
 use std::alloc::Global;
 
 /// Reads the areas of a platform, and does the lines one after the other. The first fault ends the run, and its line is
@@ -27,9 +24,9 @@ pub fn run_on<R: Rig>(
     ensures ends { EndsOn R.Shown seed platform (map (λ line. line.now) lines.now) rig.old rig.new result }
     ensures goes_on { GoesOn R.Shown rig.old rig.new }
 {
-    let mut session = match Session::start(alloc, platform, rig) {
+    let mut session = match start_session(alloc, rig, platform) {
         Ok(session) => session,
-        Err(fault) => return say_fault(rig, start_fault(fault)),
+        Err(fault) => return say_fault(rig, fault),
     };
     let outcome = run_lines(alloc, rig, &mut session, lines, seed);
     say_end(rig, outcome)

@@ -1,18 +1,16 @@
 //! One run, from the words to what is said and the status.
 
-ghost use Rattle.std.specs.Prelude.{◌≡◌, Some};
+ghost use Rattle.std.specs.Prelude.{◌≡◌};
 ghost use Rattle.rig_trait.specs.Frames.{GoesOn};
-ghost use Rattle.nd_top.specs.Ends.{AsksNothing, Ends, EndsInput, EndsLine, NeedsInput, NeedsNfit, RefusesNfit};
-ghost use Rattle.nd_top.specs.Words.{DoLine, RunInput, asked};
+ghost use Rattle.nd_top.specs.Ends.{AsksNothing, Ends, NeedsInput, NeedsNfit, RefusesNfit};
+ghost use Rattle.nd_top.specs.Words.{asked};
 
-use crate::faults::{Fault, SourceName};
+use crate::input::run_input;
 use crate::labels::say_labels;
-use crate::runs::run_on;
-use crate::saying::say_fault;
-use crate::sources::{read_all, read_platform};
-use crate::words::Request;
-use command_runs::lines_of;
+use crate::line::do_words;
+use crate::words::{Request, request_of};
 use rig_trait::{Rig, Source};
+use run_edges::{Fault, say_fault};
 use std::alloc::Global;
 
 /// Does what the words ask for.
@@ -46,57 +44,10 @@ pub fn nd_top<R: Rig, N: Source, I: Source>(
 
     ensures goes_on { GoesOn R.Shown rig.old rig.new }
 {
-    match Request::of(alloc, words) {
-        Ok(None) => say_fault(rig, Fault::Words),
-        Ok(Some(Request::Labels { dimm })) => say_labels(alloc, rig, dimm),
-        Ok(Some(Request::Line(line))) => do_line(alloc, &line, rig, nfit, seed),
-        Ok(Some(Request::Input)) => run_input(alloc, rig, nfit, input, seed),
-        Err(_) => say_fault(rig, Fault::Memory),
-    }
-}
-
-/// Does one line.
-fn do_line<R: Rig, N: Source>(
-    alloc: Global,
-    line: &str,
-    rig: &mut R,
-    nfit: &mut N,
-    seed: u128,
-) -> u8
-    ensures ends { EndsLine R.Shown N.Source seed line.now rig.old rig.new nfit.old nfit.new result }
-    ensures nfit_first { RefusesNfit N.Source (Some (DoLine line.now)) nfit.old → AsksNothing R.Shown rig.old rig.new }
-    ensures goes_on { GoesOn R.Shown rig.old rig.new }
-{
-    match read_platform(alloc, nfit) {
-        Ok(platform) => run_on(alloc, rig, platform, &[line.as_bytes()], seed),
-        Err(fault) => say_fault(rig, fault),
-    }
-}
-
-/// Does the lines of the input.
-fn run_input<R: Rig, N: Source, I: Source>(
-    alloc: Global,
-    rig: &mut R,
-    nfit: &mut N,
-    input: &mut I,
-    seed: u128,
-) -> u8
-    ensures ends { EndsInput R.Shown N.Source I.Source seed rig.old rig.new nfit.old nfit.new
-        input.old input.new result }
-    ensures nfit_first { RefusesNfit N.Source (Some RunInput) nfit.old → AsksNothing R.Shown rig.old rig.new }
-    ensures input_behind { RefusesNfit N.Source (Some RunInput) nfit.old → input.new ≡ input.old }
-    ensures goes_on { GoesOn R.Shown rig.old rig.new }
-{
-    let platform = match read_platform(alloc, nfit) {
-        Ok(platform) => platform,
-        Err(fault) => return say_fault(rig, fault),
-    };
-    let bytes = match read_all(alloc, input) {
-        Ok(bytes) => bytes,
-        Err(fault) => return say_fault(rig, Fault::of(SourceName::Input, fault)),
-    };
-    match lines_of(alloc, &bytes) {
-        Ok(lines) => run_on(alloc, rig, platform, &lines, seed),
-        Err(_) => say_fault(rig, Fault::Memory),
+    match request_of(words) {
+        None => say_fault(rig, Fault::Words),
+        Some(Request::Labels { dimm }) => say_labels(alloc, rig, dimm),
+        Some(Request::Line { front, back }) => do_words(alloc, front, back, rig, nfit, seed),
+        Some(Request::Input) => run_input(alloc, rig, nfit, input, seed),
     }
 }

@@ -1,48 +1,36 @@
 //! The words of a command line.
 
-ghost use Rattle.std.specs.Prelude.{◌≡◌, ◌++◌, IfOk, IsErr, IsSome, slice_get};
+ghost use Rattle.std.specs.Prelude.{◌≡◌, ◌++◌, slice_get};
 ghost use Rattle.std.specs.Option.{option_copied, option_map};
 ghost use Rattle.std.specs.List.{after_first, before_first};
 ghost use Rattle.std.specs.String.{string_bytes};
-ghost use Rattle.nd_top.specs.Words.{asked, asked_in, dir_of, do_form, form_in, handle, is_dashes, is_option};
-ghost use Rattle.nd_top.specs.Words.{labels_form, line_of, operands_form, run_form};
+ghost use Rattle.nd_top.specs.Words.{asked, asked_as, dir_of, do_form, form_in, handle, is_dashes, is_option};
+ghost use Rattle.nd_top.specs.Words.{labels_form, operands_form, run_form};
 
 use cmd_words::read_number;
-use std::alloc::{AllocError, Global};
 
 /// What the words of a run ask for.
-#[derive(Debug, Drop)]
-pub enum Request {
+#[derive(Clone, Copy, Debug)]
+pub enum Request<'a> {
     /// `labels DIR HANDLE`: the labels of the module with this device handle are listed.
-    Labels { dimm: u32 },
-    /// `do DIR WORD...`: what the line says is done. It is the words behind the folder, with a space between each two.
-    Line(String),
+    Labels {
+        dimm: u32,
+    },
+    /// `do DIR WORD...`: what one line says is done. Its words stand behind the first two of these.
+    Line {
+        front: &'a [String],
+        back: &'a [String],
+    },
     /// `run DIR`: what each line of the input says is done.
     Input,
 }
 
-/// The forms of command lines.
-#[derive(Clone, Copy, Debug, PartialEq, Eq)]
-enum Form {
-    Labels { dimm: u32 },
-    Do,
-    Run,
-}
-
-impl Request {
-    /// What the words ask for, and `None` exactly where they are no form.
-    pub fn of(alloc: Global, words: &[String]) -> Result<Option<Request>, AllocError>
-        ensures request { IfOk result (λ request. option_map asked_in request ≡ asked words.now) }
-        ensures memory { IsErr result → IsSome (asked words.now) }
-    {
-        let (front, back) = around_dashes(words);
-        match form_in(front, back) {
-            None => Ok(None),
-            Some(Form::Labels { dimm }) => Ok(Some(Request::Labels { dimm })),
-            Some(Form::Do) => Ok(Some(Request::Line(line(alloc, front, back)?))),
-            Some(Form::Run) => Ok(Some(Request::Input)),
-        }
-    }
+/// What the words ask for, and `None` exactly where they are no form.
+pub fn request_of<'a>(words: &'a [String]) -> Option<Request<'a>>
+    ensures { option_map asked_as result ≡ asked words.now }
+{
+    let (front, back) = around_dashes(words);
+    form_in(front, back)
 }
 
 /// The folder that the words name: the second of them without a first `--`, or `.` where there is none.
@@ -51,29 +39,6 @@ pub fn dir(words: &[String]) -> &str
 {
     let (front, back) = around_dashes(words);
     operand(front, back, 1).unwrap_or(".")
-}
-
-/// The line of the form `do`, wherever a `--` parts its words.
-fn line(alloc: Global, front: &[String], back: &[String]) -> Result<String, AllocError>
-    ensures { IfOk result (λ line. string_bytes line ≡ line_of (front.now ++ back.now)) }
-{
-    let words: Vec<&str> = front
-        .iter()
-        .chain(back)
-        .skip(2)
-        .map(String::as_str)
-        .collect(alloc)?;
-    words.join(alloc, " ")
-}
-
-/// The form of the words without a first `--`, of which those before it may be no options.
-fn form_in(front: &[String], back: &[String]) -> Option<Form>
-    ensures { result ≡ form_in front.now back.now }
-{
-    if front.iter().any(is_option_word) {
-        return None;
-    }
-    by_command(front, back)
 }
 
 /// The words before a first `--`, and those behind it: none where there is no `--`.
@@ -104,9 +69,19 @@ fn is_option_word(word: &String) -> bool
     word.starts_with("-") && word.as_str() != "-"
 }
 
+/// The form of the words without a first `--`, of which those before it may be no options.
+fn form_in<'a>(front: &'a [String], back: &'a [String]) -> Option<Request<'a>>
+    ensures { option_map asked_as result ≡ form_in front.now back.now }
+{
+    if front.iter().any(is_option_word) {
+        return None;
+    }
+    by_command(front, back)
+}
+
 /// The form of the words without a first `--`, by the first of them.
-fn by_command(front: &[String], back: &[String]) -> Option<Form>
-    ensures { result ≡ operands_form (front.now ++ back.now) }
+fn by_command<'a>(front: &'a [String], back: &'a [String]) -> Option<Request<'a>>
+    ensures { option_map asked_as result ≡ operands_form (front.now ++ back.now) }
 {
     match operand(front, back, 0)? {
         "do" => do_words(front, back),
@@ -116,26 +91,27 @@ fn by_command(front: &[String], back: &[String]) -> Option<Form>
 }
 
 /// The form `do DIR WORD...`, wherever a `--` parts its words.
-fn do_words(front: &[String], back: &[String]) -> Option<Form>
-    ensures { result ≡ do_form (front.now ++ back.now) }
+fn do_words<'a>(front: &'a [String], back: &'a [String]) -> Option<Request<'a>>
+    ensures { option_map asked_as result ≡ do_form (front.now ++ back.now) }
 {
-    operand(front, back, 2).map(|_| Form::Do)
+    operand(front, back, 2)?;
+    Some(Request::Line { front, back })
 }
 
 /// The form `run DIR`, wherever a `--` parts its words.
-fn run_words(front: &[String], back: &[String]) -> Option<Form>
-    ensures { result ≡ run_form (front.now ++ back.now) }
+fn run_words<'a>(front: &'a [String], back: &'a [String]) -> Option<Request<'a>>
+    ensures { option_map asked_as result ≡ run_form (front.now ++ back.now) }
 {
     operand(front, back, 1)?;
     match operand(front, back, 2) {
         Some(_) => None,
-        None => Some(Form::Run),
+        None => Some(Request::Input),
     }
 }
 
 /// The form `labels DIR HANDLE`, wherever a `--` parts its words.
-fn labels(front: &[String], back: &[String]) -> Option<Form>
-    ensures { result ≡ labels_form (front.now ++ back.now) }
+fn labels<'a>(front: &'a [String], back: &'a [String]) -> Option<Request<'a>>
+    ensures { option_map asked_as result ≡ labels_form (front.now ++ back.now) }
 {
     let command = operand(front, back, 0)?;
     let handle = operand(front, back, 2)?;
@@ -143,7 +119,7 @@ fn labels(front: &[String], back: &[String]) -> Option<Form>
         return None;
     }
     let dimm = read_handle(handle)?;
-    Some(Form::Labels { dimm })
+    Some(Request::Labels { dimm })
 }
 
 /// A device handle: a number below 2^32.

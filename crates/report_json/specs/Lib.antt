@@ -3,3 +3,4 @@ pub mod Words
 pub mod Refusals
 pub mod Lines
 pub mod Texts
+pub mod Listing

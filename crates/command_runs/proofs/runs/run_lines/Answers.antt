@@ -2,6 +2,7 @@ use Rattle.std.proofs.Common.{◌≡◌, ◌+◌, ◌<◌, ℕ, suc, ◌||◌, B
 use Rattle.std.specs.Prelude.{slice_get}
 use Rattle.std.proofs.lemmas.Option.{slice_get-get_or, slice_get-map}
 use Rattle.std.proofs.lemmas.List.{length-map}
+use Rattle.std.proofs.lemmas.Result.{err_from_is_err_and}
 use Rattle.rig_trait.specs.declared.shown.Shown.{Ghosts}
 use Rattle.namespace_core.specs.Sessions.{IsCurrent, StoredSession}
 use Rattle.command_runs.specs.Ends.{IsFinished, run_of}
@@ -41,36 +42,40 @@ pub loop-index-preserved : goal.loop-index-preserved
 loop-index-preserved g c =
     let lines = map (λ line. line.now) c.args.lines.now in
     let k = c.loop-index.index in
-    let refused_is : c.if-refused.refused ≡ (c.loop-index.refused || c.in-Ok.is_refused) = elim c.if-refused.branch [
-      | then-refused w ↦ w.refused-is ∙ w.if-refused.true ∙ sym (ap (λ (b : Bool). b || c.in-Ok.is_refused) w.if-refused.true)
-      | else-refused w ↦ w.refused-is ∙ sym (ap (λ (b : Bool). b || c.in-Ok.is_refused) w.if-refused.false)
+    let refused_is : c.if-refused.refused ≡ (c.loop-index.refused || c.in_ok-is_refused.is_refused) = elim c.if-refused.branch [
+      | then-refused w ↦ w.refused-is ∙ w.if-refused.true ∙ sym (ap (λ (b : Bool). b || c.in_ok-is_refused.is_refused) w.if-refused.true)
+      | else-refused w ↦ w.refused-is ∙ sym (ap (λ (b : Bool). b || c.in_ok-is_refused.is_refused) w.if-refused.false)
     ] in
     let next : suc k ≡ k + 1 = omega arith in
     subst (λ (n : ℕ). IsGoing g.R.Shown c.args.session.now c.args.seed lines c.args.rig.now n c.turn.new.session c.turn.new.rig c.if-refused.refused) next
     (going-on g.R.Shown c.args.session.now c.args.seed lines c.args.rig.now k c.loop-index.session c.loop-index.rig c.loop-index.refused c.loop-index.invariant
-    (get_or c.args.lines.now k no_line).now (next-is c.args.lines.now k c.loop-index-test.true) c.turn.new.session c.turn.new.rig c.in-Ok.is_refused c.if-refused.refused c.in-Ok.ensures refused_is)
+    (get_or c.args.lines.now k no_line).now (next-is c.args.lines.now k c.loop-index-test.true) c.turn.new.session c.turn.new.rig c.in_ok-is_refused.is_refused c.if-refused.refused c.in_ok-is_refused.ensures refused_is)
 
-pub returns-in-Err-clause-ends : goal.returns-in-Err-clause-ends
-returns-in-Err-clause-ends g c =
-    cut-short g.R.Shown c.args.session.now c.args.seed (map (λ line. line.now) c.args.lines.now) c.args.rig.now c.loop-index.index c.loop-index.session c.loop-index.rig c.loop-index.refused c.loop-index.invariant
-    (get_or c.args.lines.now c.loop-index.index no_line).now (next-is c.args.lines.now c.loop-index.index c.loop-index-test.true) c.turn.new.session c.turn.new.rig c.in-Err.fault c.in-Err.ensures
+pub returns-in_err-is_refused-clause-ends : goal.returns-in_err-is_refused-clause-ends
+returns-in_err-is_refused-clause-ends g c =
+    let p = err_from_is_err_and c.from_residual-in_err-is_refused.result c.from_residual-in_err-is_refused.ensures.1 in
+    rw (p.1, p.2)
+    (cut-short g.R.Shown c.args.session.now c.args.seed (map (λ line. line.now) c.args.lines.now) c.args.rig.now c.loop-index.index c.loop-index.session c.loop-index.rig c.loop-index.refused c.loop-index.invariant
+    (get_or c.args.lines.now c.loop-index.index no_line).now (next-is c.args.lines.now c.loop-index.index c.loop-index-test.true) c.turn.new.session c.turn.new.rig c.in_err-is_refused.field-0.0 c.in_err-is_refused.ensures)
 
-pub returns-in-Err-clause-any_moment : goal.returns-in-Err-clause-any_moment
-returns-in-Err-clause-any_moment g c =
+pub returns-in_err-is_refused-clause-any_moment : goal.returns-in_err-is_refused-clause-any_moment
+returns-in_err-is_refused-clause-any_moment g c =
     any-moment-on g.R.Shown c.args.session.now c.args.seed (map (λ line. line.now) c.args.lines.now) c.args.rig.now c.loop-index.index c.loop-index.session c.loop-index.rig c.loop-index.refused c.loop-index.invariant
-    (get_or c.args.lines.now c.loop-index.index no_line).now (next-is c.args.lines.now c.loop-index.index c.loop-index-test.true) c.turn.new.session c.turn.new.rig (Err c.in-Err.fault) c.in-Err.ensures
+    (get_or c.args.lines.now c.loop-index.index no_line).now (next-is c.args.lines.now c.loop-index.index c.loop-index-test.true) c.turn.new.session c.turn.new.rig (Err c.in_err-is_refused.field-0.0) c.in_err-is_refused.ensures
 
-pub returns-in-Err-clause-bytes : goal.returns-in-Err-clause-bytes
-returns-in-Err-clause-bytes g c =
-    bytes-on g.R.Shown c.args.session.now c.args.seed (map (λ line. line.now) c.args.lines.now) c.args.rig.now c.loop-index.index c.loop-index.session c.loop-index.rig c.loop-index.refused c.loop-index.invariant
-    (get_or c.args.lines.now c.loop-index.index no_line).now (next-is c.args.lines.now c.loop-index.index c.loop-index-test.true) c.turn.new.session c.turn.new.rig (Err c.in-Err.fault) c.in-Err.ensures
+pub returns-in_err-is_refused-clause-bytes : goal.returns-in_err-is_refused-clause-bytes
+returns-in_err-is_refused-clause-bytes g c =
+    let p = err_from_is_err_and c.from_residual-in_err-is_refused.result c.from_residual-in_err-is_refused.ensures.1 in
+    rw (p.1, p.2)
+    (bytes-on g.R.Shown c.args.session.now c.args.seed (map (λ line. line.now) c.args.lines.now) c.args.rig.now c.loop-index.index c.loop-index.session c.loop-index.rig c.loop-index.refused c.loop-index.invariant
+    (get_or c.args.lines.now c.loop-index.index no_line).now (next-is c.args.lines.now c.loop-index.index c.loop-index-test.true) c.turn.new.session c.turn.new.rig (Err c.in_err-is_refused.field-0.0) c.in_err-is_refused.ensures)
 
-pub returns-in-Err-clause-bytes_left : goal.returns-in-Err-clause-bytes_left
-returns-in-Err-clause-bytes_left g c =
+pub returns-in_err-is_refused-clause-bytes_left : goal.returns-in_err-is_refused-clause-bytes_left
+returns-in_err-is_refused-clause-bytes_left g c =
     bytes-left-on g.R.Shown c.args.session.now c.args.seed (map (λ line. line.now) c.args.lines.now) c.args.rig.now c.loop-index.index c.loop-index.session c.loop-index.rig c.loop-index.refused c.loop-index.invariant
-    (get_or c.args.lines.now c.loop-index.index no_line).now (next-is c.args.lines.now c.loop-index.index c.loop-index-test.true) c.turn.new.session c.turn.new.rig (Err c.in-Err.fault) c.in-Err.ensures
+    (get_or c.args.lines.now c.loop-index.index no_line).now (next-is c.args.lines.now c.loop-index.index c.loop-index-test.true) c.turn.new.session c.turn.new.rig (Err c.in_err-is_refused.field-0.0) c.in_err-is_refused.ensures
 
-pub returns-in-Err-clause-reads : goal.returns-in-Err-clause-reads
-returns-in-Err-clause-reads g c =
+pub returns-in_err-is_refused-clause-reads : goal.returns-in_err-is_refused-clause-reads
+returns-in_err-is_refused-clause-reads g c =
     reads-on g.R.Shown c.args.session.now c.args.seed (map (λ line. line.now) c.args.lines.now) c.args.rig.now c.loop-index.index c.loop-index.session c.loop-index.rig c.loop-index.refused c.loop-index.invariant
-    (get_or c.args.lines.now c.loop-index.index no_line).now (next-is c.args.lines.now c.loop-index.index c.loop-index-test.true) c.turn.new.session c.turn.new.rig (Err c.in-Err.fault) c.in-Err.ensures
+    (get_or c.args.lines.now c.loop-index.index no_line).now (next-is c.args.lines.now c.loop-index.index c.loop-index-test.true) c.turn.new.session c.turn.new.rig (Err c.in_err-is_refused.field-0.0) c.in_err-is_refused.ensures

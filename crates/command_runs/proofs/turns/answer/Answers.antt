@@ -33,8 +33,7 @@ returns-in-Ok-Some g c =
       at = did.at;
       spends = did.spends;
       platform = did.platform;
-      dimms = did.dimms;
-      sizes = did.sizes;
+      alike = record { dimms = did.dimms; sizes = did.sizes };
       reads = did.reads;
     } in
     let is : command_in c.args.line.now ≡ Ok (Some command) = cc in

@@ -1,6 +1,6 @@
 use Rattle.std.proofs.Common.{ℕ, List, subst, ◌∙◌}
 use Rattle.nd_top.specs.Labels.{WantsMemory}
-use Rattle.nd_top.specs.Saying.{Says}
+use Rattle.run_edges.specs.Saying.{Says}
 use Rattle.nd_top.proofs.Listings.{listed, unlisted}
 use Rattle.nd_top.proofs.labels.say_labels.Goals as goal
 

@@ -1,9 +1,0 @@
-use Rattle.std.proofs.Common.{ℕ, List, [], ◌∷◌, subst}
-use Rattle.nd_top.specs.Ends.{line_on}
-use Rattle.nd_top.specs.Runs.{EndsOn}
-use Rattle.nd_top.proofs.top.do_line.Goals as goal
-
-pub returns-in-Ok-clause-ends : goal.returns-in-Ok-clause-ends
-returns-in-Ok-clause-ends g c =
-    line_on c.in-Ok.platform (record { sound = c.in-Ok.ensures.sound; is_in = c.in-Ok.ensures.platform; ended = c.in-Ok.ensures.ended; draws = c.in-Ok.ensures.draws })
-    (subst (λ (line : List ℕ). EndsOn g.R.Shown c.args.seed c.in-Ok.platform (line ∷ []) c.args.rig.now c.run_on.new.rig c.run_on.result) c.as_bytes.ensures.value c.run_on.ensures.ends)
