@@ -3,7 +3,6 @@ use Rattle.std.specs.Prelude.{◌≡◌, ℕ, ◌+◌, ◌*◌, ◌<◌, ◌&&�
 use Rattle.std.specs.Prelude.{nat_lt}
 use Rattle.byte_ranges.specs.Ranges.{number_at}
 use Rattle.btt_arena.specs.declared.layout.Layout.{Layout}
-use Rattle.btt_arena.specs.declared.opening.Arena.{Arena}
 use Rattle.btt_arena.specs.declared.opening.ArenaFault.{ArenaFault}
 use Rattle.btt_arena.specs.declared.opening.ArenaFault.TheVariants as fault
 use Rattle.btt_arena.specs.Info.{arena_in}
@@ -27,7 +26,8 @@ AreRight a newer lanes = (lane : ℕ) → lane < lanes → is_lane_right a (newe
 -- the first lane that is not right, where there is one
 abbrev pub IsFirstWrong : Layout → (ℕ → Option Half) → Option ℕ → Type 0
 IsFirstWrong a newer None = AreRight a newer lane_count
-IsFirstWrong a newer (Some lane) = (lane < lane_count) × ((is_lane_right a (newer lane) ≡ false) × AreRight a newer lane)
+IsFirstWrong a newer (Some lane) = (lane < lane_count)
+    × ((is_lane_right a (newer lane) ≡ false) × AreRight a newer lane)
 
 -- the half that begins at an offset of the lanes' bytes
 abbrev pub half_of : List ℕ → ℕ → Half
@@ -43,9 +43,8 @@ abbrev pub newer_of_log : List ℕ → ℕ → Option Half
 newer_of_log log lane = newer_of (half_of log (64 * lane)) (half_of log (64 * lane + 16))
 
 -- the arena that is opened, or why none is
-abbrev pub Opens : List ℕ → Result Arena ArenaFault → Type 0
-Opens bytes (Ok arena) = (arena_in bytes ≡ Some arena.layout)
-    × IsFirstWrong arena.layout (newer_half arena.layout bytes) None
+abbrev pub Opens : List ℕ → Result Layout ArenaFault → Type 0
+Opens bytes (Ok arena) = (arena_in bytes ≡ Some arena) × IsFirstWrong arena (newer_half arena bytes) None
 Opens bytes (Err fault.NoArena) = arena_in bytes ≡ None
 Opens bytes (Err (fault.Lane lane)) = (a : Layout) × ((arena_in bytes ≡ Some a)
     × IsFirstWrong a (newer_half a bytes) (Some lane))

@@ -15,6 +15,7 @@ use crate::formats::find_arena;
 use crate::lanes::LOG_BYTES;
 use crate::layout::{LANES, Layout, is_size};
 use byte_ranges::u32_at;
+use std::marker::Model;
 
 /// The block of a word is its low 30 bits.
 const BLOCK_END: u32 = 1 << 30;
@@ -38,17 +39,30 @@ impl From<rig_trait::Failed> for ArenaFault {
     }
 }
 
-/// An arena that was found in a media.
+/// An arena that was found in a media. Contracts see its layout.
 #[derive(Clone, Copy, Debug, PartialEq, Eq)]
 pub struct Arena {
     layout: Layout,
 }
 
+impl Model for Arena {
+    ghost use Rattle.btt_arena.specs.declared.layout.Layout.{Layout};
+    ghost use Rattle.btt_arena.specs.Layout.{IsLayout};
+
+    ghost Value = { Layout };
+
+    ghost view = { λ arena. arena.layout };
+
+    ghost invariant = { λ arena. IsLayout arena.layout };
+
+    ghost inverse = { λ a. record { layout = a } };
+}
+
 impl Arena {
-    /// Finds the arena of a media, and looks at its lanes. It writes nothing: a lane that was left to complete stays so.
+    /// Finds the arena of a media, and looks at its lanes. It writes nothing: a lane that was left to complete stays
+    /// so.
     pub fn open<M: Media>(media: &mut M) -> Result<Arena, ArenaFault>
         ensures answer { IsTold M.MediaState media.old → Opens (M.bytes media.old) result }
-        ensures layout { IfOk result (λ arena. IsLayout arena.layout) }
         ensures reads_only { Reads M.MediaState media.old media.new }
         ensures cause { Fails M.MediaState media.old media.new (is_open_failed result) }
     {
@@ -63,14 +77,14 @@ impl Arena {
 
     /// How many sectors it has.
     pub fn blocks(&self) -> u32
-        ensures { result ≡ self.now.layout.sectors }
+        ensures { result ≡ self.now.sectors }
     {
         self.layout.sectors
     }
 
     /// The size of a sector, in bytes.
     pub fn sector(&self) -> u32
-        ensures { result ≡ self.now.layout.sector }
+        ensures { result ≡ self.now.sector }
     {
         self.layout.sector
     }
