@@ -1,5 +1,6 @@
 -- What changes within a range alone.
-use Rattle.std.proofs.Common.{◌≡◌, inl, inr, ⊎_elim, ℕ, ◌+◌, ◌≤◌, List, length, Option, Some, Result, Ok, refl, ap, ◌∙◌, arith}
+use Rattle.std.proofs.Common.{◌≡◌, inl, inr, ⊎_elim, ℕ, ◌+◌, ◌≤◌, List, length, Option, Some, Result, Ok, Err, refl, ap, ◌∙◌, arith}
+use Rattle.std.specs.Prelude.{OnOk}
 use Rattle.byte_ranges.specs.Ranges.{range, patched}
 use Rattle.byte_ranges.proofs.Patched.{length-patched, range-patched_before, range-patched_after}
 use Rattle.rig_trait.specs.declared.rig.Failed.{Failed}
@@ -47,6 +48,10 @@ module _ (before put : List ℕ) (at : ℕ) (inside : at + length put ≤ length
   -- a write that answered Ok put its bytes
   pub stands : {T : Type 0} → (bytes : List ℕ) (value : T) → Writes before bytes at put (Ok value) → bytes ≡ patched before at put
   stands bytes value writes = writes.bytes_are ∙ ap (patched before at) (elim writes.ok [ inl err ↦ cc | inr same ↦ same ])
+
+  pub put_at_ok : {T : Type 0} → (bytes : List ℕ) (result : Result T Failed) → Writes before bytes at put result → OnOk result (bytes ≡ patched before at put)
+  put_at_ok bytes (Ok value) writes = stands bytes value writes
+  put_at_ok bytes (Err failed) writes = tt
 
 -- the bytes behind a write, as a stop within it leaves them
 abbrev pub behind : List ℕ → ℕ → List ℕ → List ℕ → CrashRecord

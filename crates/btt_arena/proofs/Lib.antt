@@ -13,3 +13,7 @@ pub mod Fresh
 pub mod Parts
 pub mod Stages
 pub mod LaneBytes
+pub mod Folding
+pub mod EntryWords
+pub mod Kept
+pub mod Exchange
