@@ -104,7 +104,7 @@ free_of halves lane = option_map_or (λ half. block_in half.old) (halves lane) 0
 pub free_is : (halves : ℕ → Option Half) (lane : ℕ) (half : Half) → halves lane ≡ Some half → free_of halves lane ≡ block_in half.old
 free_is halves lane half is = ap (λ (o : Option Half). option_map_or (λ (h : Half). block_in h.old) o 0) is
 
-same_half : (x y : Half) → Some x ≡ Some y → x ≡ y
+pub same_half : (x y : Half) → Some x ≡ Some y → x ≡ y
 same_half x y same = cc
 
 module _ (a : Layout) (halves : ℕ → Option Half) (map : Map) (count : a.sectors + 256 ≡ a.blocks) (lanes : (lane : ℕ) → lane < 256 → HasNewer a (halves lane))

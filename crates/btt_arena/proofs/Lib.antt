@@ -17,3 +17,5 @@ pub mod Folding
 pub mod EntryWords
 pub mod Kept
 pub mod Exchange
+pub mod Reading
+pub mod Rewriting

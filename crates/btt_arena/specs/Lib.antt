@@ -14,3 +14,4 @@ pub mod Formatting
 pub mod Opening
 pub mod Words
 pub mod Completing
+pub mod Sectors

@@ -12,6 +12,7 @@ mod layout;
 mod media;
 mod memory;
 mod opening;
+mod sectors;
 mod single_words;
 mod state;
 

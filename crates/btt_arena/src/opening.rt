@@ -1,21 +1,24 @@
 //! How an arena is found, and its lanes are looked at.
 
-ghost use Rattle.std.specs.Prelude.{◌≡◌, ◌+◌, ◌<◌, ◌≤◌, length, IfOk, IfSome};
+ghost use Rattle.std.specs.Prelude.{◌≡◌, ◌+◌, ◌<◌, ◌≤◌, length, IfOk, IfSome, IsTrue};
 ghost use Rattle.std.specs.Result.{is_err};
 ghost use Rattle.btt_arena.specs.declared.opening.ArenaFault.TheVariants.{Failed};
 ghost use Rattle.byte_ranges.specs.Ranges.{range};
+ghost use Rattle.btt_arena.specs.Arena.{IsFit, content, held_by};
 ghost use Rattle.btt_arena.specs.Frames.{IsTold, Reads, GoesOn, Fails, LeavesOnly};
 ghost use Rattle.btt_arena.specs.Info.{arena_in};
 ghost use Rattle.btt_arena.specs.Layout.{IsLayout};
 ghost use Rattle.btt_arena.specs.Opening.{AreRight, IsFirstWrong, IsNotOpened, IsOpened, IsOpening, Opens};
 ghost use Rattle.btt_arena.specs.Opening.{is_half_right, is_lane_right, is_open_failed, newer_of_log};
+ghost use Rattle.btt_arena.specs.Sectors.{GivesHeld, bytes_of, is_readable};
+ghost use Rattle.btt_arena.specs.Tables.{map_in};
 
-use crate::Media;
 use crate::completing::complete_lanes;
 use crate::formats::find_arena;
 use crate::halves::{Half, newer_half};
 use crate::lanes::LOG_BYTES;
 use crate::layout::{LANES, Layout, is_size};
+use crate::{Media, sectors};
 use std::marker::Model;
 
 /// The block of a word is its low 30 bits.
@@ -81,6 +84,32 @@ impl Arena {
         let layout = find_lanes(media, &mut log)?;
         complete_lanes(media, &layout, &log)?;
         Ok(Arena { layout })
+    }
+
+    /// Reads a sector: its number is below `blocks()`, and `into` has `sector()` bytes. `false`, with no word on what
+    /// `into` holds then, exactly where its map entry is that of a bad sector or names a block that isn't there. A media
+    /// that tells its bytes has the size of the one that was opened.
+    pub fn read_sector<M: Media>(
+        &self,
+        media: &mut M,
+        block: u32,
+        into: &mut [u8],
+    ) -> Result<bool, rig_trait::Failed>
+        requires block { block < self.now.sectors }
+        requires into { length into.old ≡ self.now.sector }
+        requires told { IsTold M.MediaState media.old → length (M.bytes media.old) ≡ self.now.size }
+        ensures answer { IsTold M.MediaState media.old
+            → IfOk result (λ read. read ≡ is_readable self.now (map_in self.now (M.bytes media.old) block) block) }
+        ensures bytes { IsTold M.MediaState media.old → IfOk result (λ read. IsTrue read
+            → into.new ≡ bytes_of self.now.sector
+            (held_by self.now (M.bytes media.old) (map_in self.now (M.bytes media.old) block) block)) }
+        // Of an arena that is fit it gives what the sector holds.
+        ensures content { IsTold M.MediaState media.old → IsFit self.now (M.bytes media.old)
+            → IfOk result (λ read. GivesHeld self.now.sector (content self.now (M.bytes media.old) block) read into.new) }
+        ensures reads_only { Reads M.MediaState media.old media.new }
+        ensures cause { Fails M.MediaState media.old media.new (is_err result) }
+    {
+        sectors::read_sector(media, &self.layout, block, into)
     }
 
     /// How many sectors it has.
