@@ -19,3 +19,6 @@ pub mod Kept
 pub mod Exchange
 pub mod Reading
 pub mod Rewriting
+pub mod Noting
+pub mod Writes
+pub mod Moving

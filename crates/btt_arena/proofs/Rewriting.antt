@@ -31,7 +31,7 @@ module _ (halves : ℕ → Option Half) (map : Map) (lane : ℕ) (half : Half) (
         ∙ with_lane_closed (halves n) (with_half half map) (behind n (omega (arith, less, more)) (omega (arith, few)))
   ]
 
-normal_block : (block : ℕ) → block < 2 ^ 30 → block_in (normal block) ≡ block
+pub normal_block : (block : ℕ) → block < 2 ^ 30 → block_in (normal block) ≡ block
 normal_block block small = omega arith
 
 normal_mark : (block : ℕ) → block < 2 ^ 30 → mark_of (normal block) ≡ 3
@@ -47,10 +47,10 @@ held_normal a bytes block sector small =
     let mark = normal_mark block small in
     rw mark (ap (λ (k : ℕ). holds (block_bytes a bytes k)) (normal_block block small))
 
-with_here : (map : Map) (sector word s : ℕ) → s ≡ sector → with_entry map sector word s ≡ word
+pub with_here : (map : Map) (sector word s : ℕ) → s ≡ sector → with_entry map sector word s ≡ word
 with_here map sector word s same = rw (eq-eqb s sector same) refl
 
-with_there : (map : Map) (sector word s : ℕ) → (s ≡ sector → ⊥) → with_entry map sector word s ≡ map s
+pub with_there : (map : Map) (sector word s : ℕ) → (s ≡ sector → ⊥) → with_entry map sector word s ≡ map s
 with_there map sector word s other = rw (ne_eqb s sector other) refl
 
 module _ (a : Layout) (fits : Fits a) (before : List ℕ) (fit : IsFit a before) where

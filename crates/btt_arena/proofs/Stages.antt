@@ -51,6 +51,12 @@ module _ (a : Layout) (layout : IsLayout a) where
       ap (λ (n : ℕ). arena_at n bytes) long ∙ by_size
       ∙ (λ i. first_of_two (told_layout a.size (first_is i)) (told_layout a.size ((ap (λ (k : ℕ). range bytes k 4096) at ∙ second_is) i)))
 
+  -- by the bytes of the info blocks
+  pub same_infos : (before bytes : List ℕ) → length before ≡ a.size → length bytes ≡ length before → range bytes 0 4096 ≡ range before 0 4096 → range bytes a.info_at 4096 ≡ range before a.info_at 4096 → arena_in bytes ≡ arena_in before
+  same_infos before bytes long same first second =
+      arena_is bytes (range before 0 4096) (range before a.info_at 4096) (same ∙ long) first second
+      ∙ sym (arena_is before (range before 0 4096) (range before a.info_at 4096) long refl refl)
+
   pub same_arena : (before : List ℕ) → length before ≡ a.size → (from n : ℕ) (bytes : List ℕ) → 4096 ≤ from → from + n ≤ a.info_at → ChangesOnly from n before bytes → arena_in bytes ≡ arena_in before
   same_arena before long from n bytes begins ends changes =
       arena_is bytes (range before 0 4096) (range before a.info_at 4096) (changes.same_length ∙ long) (changes.others 0 4096 (inl begins)) (changes.others a.info_at 4096 (inr ends))

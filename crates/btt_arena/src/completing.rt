@@ -16,7 +16,7 @@ use crate::single_words::{read_word, write_word};
 use rig_trait::Failed;
 
 /// The block of a word is its low 30 bits.
-const BLOCK_END: u32 = 1 << 30;
+pub const BLOCK_END: u32 = 1 << 30;
 
 /// Completes the lanes of an arena in ascending order, by the bytes of all.
 pub fn complete_lanes<M: Media>(

@@ -36,7 +36,7 @@ pub fn newer_half(log: &[u8], at: usize) -> Option<Half>
 }
 
 /// The half that begins at an offset.
-fn half_at(log: &[u8], at: usize) -> Half
+pub fn half_at(log: &[u8], at: usize) -> Half
     requires { at + 16 ≤ length log.now }
     ensures { result ≡ half_of log.now at }
 {
@@ -49,7 +49,7 @@ fn half_at(log: &[u8], at: usize) -> Half
 }
 
 /// Whether a half with the first number is newer than that with the other one.
-fn is_newer(seq: u32, other: u32) -> bool
+pub fn is_newer(seq: u32, other: u32) -> bool
     ensures { result ≡ is_newer seq other }
 {
     (other == 1 && seq == 2)

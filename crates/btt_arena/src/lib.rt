@@ -15,6 +15,8 @@ mod opening;
 mod sectors;
 mod single_words;
 mod state;
+mod turns;
+mod writing;
 
 pub use formats::{FormatFault, format};
 pub use layout::{Layout, is_size};

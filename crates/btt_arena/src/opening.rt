@@ -1,6 +1,7 @@
 //! How an arena is found, and its lanes are looked at.
 
-ghost use Rattle.std.specs.Prelude.{◌≡◌, ◌+◌, ◌<◌, ◌≤◌, length, IfOk, IfSome, IsTrue};
+ghost use Rattle.std.specs.Prelude.{◌≡◌, ◌+◌, ◌<◌, ◌≤◌, length, nat_lt, is_some, is_none, IfOk};
+ghost use Rattle.std.specs.Prelude.{IfSome, IsTrue, OnOk};
 ghost use Rattle.std.specs.Result.{is_err};
 ghost use Rattle.btt_arena.specs.declared.opening.ArenaFault.TheVariants.{Failed};
 ghost use Rattle.byte_ranges.specs.Ranges.{range};
@@ -10,15 +11,15 @@ ghost use Rattle.btt_arena.specs.Info.{arena_in};
 ghost use Rattle.btt_arena.specs.Layout.{IsLayout};
 ghost use Rattle.btt_arena.specs.Opening.{AreRight, IsFirstWrong, IsNotOpened, IsOpened, IsOpening, Opens};
 ghost use Rattle.btt_arena.specs.Opening.{is_half_right, is_lane_right, is_open_failed, newer_of_log};
-ghost use Rattle.btt_arena.specs.Sectors.{GivesHeld, bytes_of, is_readable};
-ghost use Rattle.btt_arena.specs.Tables.{map_in};
+ghost use Rattle.btt_arena.specs.Sectors.{GivesHeld, IsOldOrNew, IsRewritten, bytes_of, is_readable};
+ghost use Rattle.btt_arena.specs.Tables.{block_named, map_in};
 
 use crate::completing::complete_lanes;
 use crate::formats::find_arena;
 use crate::halves::{Half, newer_half};
 use crate::lanes::LOG_BYTES;
 use crate::layout::{LANES, Layout, is_size};
-use crate::{Media, sectors};
+use crate::{Media, sectors, writing};
 use std::marker::Model;
 
 /// The block of a word is its low 30 bits.
@@ -110,6 +111,41 @@ impl Arena {
         ensures cause { Fails M.MediaState media.old media.new (is_err result) }
     {
         sectors::read_sector(media, &self.layout, block, into)
+    }
+
+    /// Writes a sector: its number is below `blocks()`, and there are `sector()` bytes. They go to the free block of the
+    /// lane of the sector's number, a note of that goes to the lane, and then the sector's map entry names the block.
+    /// `None`, with nothing written, exactly where that entry names a block that isn't there. A media that tells its
+    /// bytes has the size of the one that was opened. After an `Err` the arena is to be opened anew.
+    pub fn write_sector<M: Media>(
+        &mut self,
+        media: &mut M,
+        block: u32,
+        bytes: &[u8],
+    ) -> Result<Option<()>, rig_trait::Failed>
+        requires block { block < self.old.sectors }
+        requires bytes { length bytes.now ≡ self.old.sector }
+        requires told { IsTold M.MediaState media.old → length (M.bytes media.old) ≡ self.old.size }
+        ensures answer { IsTold M.MediaState media.old → IfOk result (λ written. is_some written
+            ≡ nat_lt (block_named (map_in self.old (M.bytes media.old) block) block) self.old.blocks) }
+        ensures unwritten { IfOk result (λ written. IsTrue (is_none written) → Reads M.MediaState media.old media.new) }
+
+        // Of an arena that is fit: at Ok it is fit again and this sector holds the bytes; whatever the answer, and by a
+        // stop at any moment, it is sound, and holds what it did or that with the bytes.
+        ensures written { IsTold M.MediaState media.old → IsFit self.old (M.bytes media.old) → OnOk result
+            (IsFit self.new (M.bytes media.new)
+            × IsRewritten self.old (M.bytes media.old) block bytes.now (M.bytes media.new)) }
+        ensures so_far { IsTold M.MediaState media.old → IsFit self.old (M.bytes media.old)
+            → IsOldOrNew self.old (M.bytes media.old) block bytes.now (M.bytes media.new) }
+        ensures any_moment { IsTold M.MediaState media.old → IsFit self.old (M.bytes media.old)
+            → LeavesOnly M.MediaState media.old media.new
+            (λ c. IsOldOrNew self.old (M.bytes media.old) block bytes.now c.bytes) }
+
+        ensures numbers { self.new ≡ self.old }
+        ensures goes_on { GoesOn M.MediaState media.old media.new }
+        ensures cause { Fails M.MediaState media.old media.new (is_err result) }
+    {
+        writing::write_sector(media, &self.layout, block, bytes)
     }
 
     /// How many sectors it has.

@@ -1,4 +1,4 @@
-//! How a sector is read and written.
+//! How a sector is read.
 
 ghost use Rattle.std.specs.Prelude.{◌≡◌, ◌+◌, ◌*◌, ◌<◌, length, IfOk, IsTrue};
 ghost use Rattle.std.specs.Result.{is_err};
@@ -61,7 +61,7 @@ fn is_zeros(entry: u32) -> bool
 }
 
 /// Where a block begins.
-fn block_at(layout: &Layout, block: u32) -> u64
+pub fn block_at(layout: &Layout, block: u32) -> u64
     requires layout { IsLayout layout.now }
     requires block { block < layout.now.blocks }
     ensures { result ≡ data_at + block * layout.now.sector }
