@@ -1,10 +1,11 @@
 -- What changes within a range alone.
-use Rattle.std.proofs.Common.{◌≡◌, inl, inr, ⊎_elim, ℕ, ◌+◌, ◌≤◌, List, length, Result, Ok, ap, ◌∙◌, arith}
+use Rattle.std.proofs.Common.{◌≡◌, inl, inr, ⊎_elim, ℕ, ◌+◌, ◌≤◌, List, length, Option, Some, Result, Ok, Err, refl, ap, ◌∙◌, arith}
+use Rattle.std.specs.Prelude.{OnOk}
 use Rattle.byte_ranges.specs.Ranges.{range, patched}
 use Rattle.byte_ranges.proofs.Patched.{length-patched, range-patched_before, range-patched_after}
 use Rattle.rig_trait.specs.declared.rig.Failed.{Failed}
 use Rattle.btt_arena.specs.Formatting.{ChangesOnly}
-use Rattle.btt_arena.specs.Records.{CrashRecord, IsTorn, IsWhole, LeftByWrite, Writes}
+use Rattle.btt_arena.specs.Records.{CrashRecord, IsTorn, IsWhole, LeftByWrite, Writes, torn_write}
 
 pub same_bytes : (from n : ℕ) (before bytes : List ℕ) → bytes ≡ before → ChangesOnly from n before bytes
 same_bytes from n before bytes same = record { same_length = ap length same; others = λ at k apart. ap (λ (b : List ℕ). range b at k) same }
@@ -47,3 +48,14 @@ module _ (before put : List ℕ) (at : ℕ) (inside : at + length put ≤ length
   -- a write that answered Ok put its bytes
   pub stands : {T : Type 0} → (bytes : List ℕ) (value : T) → Writes before bytes at put (Ok value) → bytes ≡ patched before at put
   stands bytes value writes = writes.bytes_are ∙ ap (patched before at) (elim writes.ok [ inl err ↦ cc | inr same ↦ same ])
+
+  pub put_at_ok : {T : Type 0} → (bytes : List ℕ) (result : Result T Failed) → Writes before bytes at put result → OnOk result (bytes ≡ patched before at put)
+  put_at_ok bytes (Ok value) writes = stands bytes value writes
+  put_at_ok bytes (Err failed) writes = tt
+
+-- the bytes behind a write, as a stop within it leaves them
+abbrev pub behind : List ℕ → ℕ → List ℕ → List ℕ → CrashRecord
+behind old at put new = record { bytes = new; torn = Some (torn_write old at put) }
+
+pub left_behind : {T : Type 0} → (old new put : List ℕ) (at : ℕ) (result : Result T Failed) → Writes old new at put result → LeftByWrite old new at put result (behind old at put new)
+left_behind old new put at result writes = inl (record { mixed = writes.mixed; by_words = writes.by_words; bytes_are = writes.bytes_are; torn_is = refl })

@@ -16,7 +16,8 @@ use Rattle.btt_arena.specs.Arena.{AreEachOnce, IsSound, block_at, held_by, holds
 use Rattle.btt_arena.specs.Formatting.{HasFreshLog, HasFreshMap, IsFresh, fresh_lane}
 use Rattle.btt_arena.specs.Info.{arena_in}
 use Rattle.btt_arena.specs.Layout.{IsLayout}
-use Rattle.btt_arena.specs.Tables.{Half, Map, block_in, block_named, completed, completed_by, free_block, half_at, half_in, map_in, newer_half, newer_of, normal, with_half, with_lane}
+use Rattle.btt_arena.specs.declared.halves.Half.{Half}
+use Rattle.btt_arena.specs.Tables.{Map, block_in, block_named, completed, completed_by, free_block, half_at, half_in, map_in, newer_half, newer_of, normal, with_half, with_lane}
 use Rattle.btt_arena.proofs.Layouts.{Fits, fits_of}
 
 -- a word of a range

@@ -4,7 +4,8 @@ use Rattle.std.proofs.lemmas.Bool.{cases_lt}
 use Rattle.byte_ranges.specs.Ranges.{range, number_at}
 use Rattle.btt_arena.specs.declared.layout.Layout.{Layout}
 use Rattle.btt_arena.specs.Opening.{AreRight, IsFirstWrong, half_of, is_lane_right, newer_of_log}
-use Rattle.btt_arena.specs.Tables.{Half, half_at, half_in, newer_half, newer_of}
+use Rattle.btt_arena.specs.declared.halves.Half.{Half}
+use Rattle.btt_arena.specs.Tables.{half_at, half_in, newer_half, newer_of}
 use Rattle.btt_arena.proofs.Fresh.{word_of_range}
 
 half_same : (bytes : List ℕ) (log_at at from : ℕ) → from ≡ log_at + at → at + 16 ≤ 16384 → half_of (range bytes log_at 16384) at ≡ half_of bytes from
@@ -15,7 +16,7 @@ half_same bytes log_at at from is fits =
     let seq : number_at 4 (range bytes log_at 16384) (at + 12) ≡ number_at 4 bytes (from + 12) = sym (word_of_range bytes log_at 16384 (at + 12) (omega arith)) ∙ ap (number_at 4 bytes) (omega arith) in
     λ i. record { lba = lba i; old = old i; new = new i; seq = seq i }
 
-newer_same : (a : Layout) (bytes : List ℕ) (lane : ℕ) → lane < 256 → newer_of_log (range bytes a.log_at 16384) lane ≡ newer_half a bytes lane
+pub newer_same : (a : Layout) (bytes : List ℕ) (lane : ℕ) → lane < 256 → newer_of_log (range bytes a.log_at 16384) lane ≡ newer_half a bytes lane
 newer_same a bytes lane below =
     let first : half_of (range bytes a.log_at 16384) (64 * lane) ≡ half_in a bytes lane 0 = half_same bytes a.log_at (64 * lane) (half_at a lane 0) (omega arith) (omega arith) in
     let second : half_of (range bytes a.log_at 16384) (64 * lane + 16) ≡ half_in a bytes lane 1 = half_same bytes a.log_at (64 * lane + 16) (half_at a lane 1) (omega arith) (omega arith) in

@@ -13,3 +13,12 @@ pub mod Fresh
 pub mod Parts
 pub mod Stages
 pub mod LaneBytes
+pub mod Folding
+pub mod EntryWords
+pub mod Kept
+pub mod Exchange
+pub mod Reading
+pub mod Rewriting
+pub mod Noting
+pub mod Writes
+pub mod Moving

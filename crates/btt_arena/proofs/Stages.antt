@@ -51,18 +51,24 @@ module _ (a : Layout) (layout : IsLayout a) where
       ap (λ (n : ℕ). arena_at n bytes) long ∙ by_size
       ∙ (λ i. first_of_two (told_layout a.size (first_is i)) (told_layout a.size ((ap (λ (k : ℕ). range bytes k 4096) at ∙ second_is) i)))
 
-  module _ (uuid before : List ℕ) (uuid_long : length uuid ≡ 16) (long : length before ≡ a.size) where
-    same_arena : (from n : ℕ) (bytes : List ℕ) → 4096 ≤ from → from + n ≤ a.info_at → ChangesOnly from n before bytes → arena_in bytes ≡ arena_in before
-    same_arena from n bytes begins ends changes =
-        arena_is bytes (range before 0 4096) (range before a.info_at 4096) (changes.same_length ∙ long) (changes.others 0 4096 (inl begins)) (changes.others a.info_at 4096 (inr ends))
-        ∙ sym (arena_is before (range before 0 4096) (range before a.info_at 4096) long refl refl)
+  -- by the bytes of the info blocks
+  pub same_infos : (before bytes : List ℕ) → length before ≡ a.size → length bytes ≡ length before → range bytes 0 4096 ≡ range before 0 4096 → range bytes a.info_at 4096 ≡ range before a.info_at 4096 → arena_in bytes ≡ arena_in before
+  same_infos before bytes long same first second =
+      arena_is bytes (range before 0 4096) (range before a.info_at 4096) (same ∙ long) first second
+      ∙ sym (arena_is before (range before 0 4096) (range before a.info_at 4096) long refl refl)
 
+  pub same_arena : (before : List ℕ) → length before ≡ a.size → (from n : ℕ) (bytes : List ℕ) → 4096 ≤ from → from + n ≤ a.info_at → ChangesOnly from n before bytes → arena_in bytes ≡ arena_in before
+  same_arena before long from n bytes begins ends changes =
+      arena_is bytes (range before 0 4096) (range before a.info_at 4096) (changes.same_length ∙ long) (changes.others 0 4096 (inl begins)) (changes.others a.info_at 4096 (inr ends))
+      ∙ sym (arena_is before (range before 0 4096) (range before a.info_at 4096) long refl refl)
+
+  module _ (uuid before : List ℕ) (uuid_long : length uuid ≡ 16) (long : length before ≡ a.size) where
     pub map_stage : (c : CrashRecord) → ChangesOnly a.map_at (a.log_at - a.map_at) before c.bytes → IsStage a uuid before c
     map_stage c changes =
         let fits : Fits a = fits_of a layout in
         record {
           order = writing_map changes;
-          made = λ none fair. inl (same_arena a.map_at (a.log_at - a.map_at) c.bytes (omega (arith, fits.room)) (omega (arith, fits.map, fits.log)) changes ∙ none);
+          made = λ none fair. inl (same_arena before long a.map_at (a.log_at - a.map_at) c.bytes (omega (arith, fits.room)) (omega (arith, fits.map, fits.log)) changes ∙ none);
         }
 
     module _ {T : Type 0} (old new put : List ℕ) (result : Result T Failed) (c : CrashRecord) where
@@ -77,7 +83,7 @@ module _ (a : Layout) (layout : IsLayout a) where
           (wider a.log_at (length put) a.map_at (a.info_at - a.map_at) old c.bytes (omega (arith, fits.map)) (omega (arith, fits.map, fits.log)) this) in
           record {
             order = writing_lanes all (this.others a.map_at (a.log_at - a.map_at) (inl (omega (arith, fits.map))) ∙ map);
-            made = λ none fair. inl (same_arena a.map_at (a.info_at - a.map_at) c.bytes (omega (arith, fits.room)) (omega (arith, fits.map, fits.log)) all ∙ none);
+            made = λ none fair. inl (same_arena before long a.map_at (a.info_at - a.map_at) c.bytes (omega (arith, fits.room)) (omega (arith, fits.map, fits.log)) all ∙ none);
           }
 
       pub second_stage : ChangesOnly a.map_at (a.info_at - a.map_at) before old → HasFreshMap a old → HasFreshLog a old → put ≡ info_text a uuid

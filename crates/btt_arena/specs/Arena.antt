@@ -1,10 +1,13 @@
 -- What an arena holds, and when it is sound.
-use Rattle.std.specs.Prelude.{◌≡◌, ℕ, ◌+◌, ◌-◌, ◌*◌, ◌<◌, ◌==◌, List, Option, Some, if◌then◌else◌, nat_lt}
+use Rattle.std.specs.Prelude.{◌≡◌, ℕ, ◌+◌, ◌-◌, ◌*◌, ◌<◌, ◌==◌, false, List, Option, Some}
+use Rattle.std.specs.Prelude.{if◌then◌else◌, nat_lt}
 use Rattle.byte_ranges.specs.Ranges.{range}
 use Rattle.btt_arena.specs.declared.layout.Layout.{Layout}
 use Rattle.btt_arena.specs.Info.{arena_in}
 use Rattle.btt_arena.specs.Layout.{data_at, lane_count}
-use Rattle.btt_arena.specs.Tables.{Half, Map, block_named, completed, free_block, mark_of, newer_half}
+use Rattle.btt_arena.specs.declared.halves.Half.{Half}
+use Rattle.btt_arena.specs.Tables.{Map, block_named, completed, free_block, is_open, map_in}
+use Rattle.btt_arena.specs.Tables.{mark_of, newer_half}
 
 -- what a sector holds
 pub data Held : Type 0 where
@@ -46,3 +49,18 @@ pub record IsSound (a : Layout) (bytes : List ℕ) : Type 0 where
   pub info : arena_in bytes ≡ Some a
   pub lanes : (lane : ℕ) → lane < lane_count → HasNewer a (newer_half a bytes lane)
   pub once : AreEachOnce a.blocks (block_at a (completed a bytes) (free_block a bytes))
+
+-- no lane is left to complete
+abbrev pub AllClosed : Layout → List ℕ → Type 0
+AllClosed a bytes = (lane : ℕ) → lane < lane_count → (half : Half) → newer_half a bytes lane ≡ Some half
+    → is_open half (map_in a bytes) ≡ false
+
+-- an arena is fit for a media: its numbers are those of the info block, it is sound, and no lane is left to complete
+pub record IsFit (a : Layout) (bytes : List ℕ) : Type 0 where
+  pub sound : IsSound a bytes
+  pub closed : AllClosed a bytes
+
+-- it is sound, and each sector holds what it did
+pub record IsKept (a : Layout) (before bytes : List ℕ) : Type 0 where
+  pub sound : IsSound a bytes
+  pub same : (sector : ℕ) → sector < a.sectors → content a bytes sector ≡ content a before sector

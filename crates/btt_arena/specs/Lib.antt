@@ -12,3 +12,6 @@ pub mod Tables
 pub mod Arena
 pub mod Formatting
 pub mod Opening
+pub mod Words
+pub mod Completing
+pub mod Sectors

@@ -3,6 +3,7 @@ use Rattle.std.specs.Prelude.{ℕ, zero, suc, ◌+◌, ◌*◌, ◌/◌, ◌%◌
 use Rattle.std.specs.Prelude.{not, nat_le, if◌then◌else◌}
 use Rattle.std.specs.Option.{option_map_or}
 use Rattle.byte_ranges.specs.Ranges.{number_at}
+use Rattle.btt_arena.specs.declared.halves.Half.{Half}
 use Rattle.btt_arena.specs.declared.layout.Layout.{Layout}
 
 -- a map, by the word of each sector's entry
@@ -29,13 +30,6 @@ normal block = 3 * 2 ^ 30 + block
 -- the block that the entry of a sector names: the sector's own number where it was never written
 abbrev pub block_named : ℕ → ℕ → ℕ
 block_named word sector = if mark_of word == 0 then sector else block_in word
-
--- a half of a lane: what a write of a sector notes, in the order of its four words
-pub record Half : Type 0 where
-  pub lba : ℕ
-  pub old : ℕ
-  pub new : ℕ
-  pub seq : ℕ
 
 -- where a half begins, of the lane of 64 bytes
 abbrev pub half_at : Layout → ℕ → ℕ → ℕ
@@ -72,9 +66,11 @@ abbrev pub free_block : Layout → List ℕ → ℕ → ℕ
 free_block a bytes lane = option_map_or (λ half. block_in half.old) (newer_half a bytes lane) 0
 
 -- a write was stopped before its last step: the map still names the old block, which differs from the new one
+abbrev pub is_open_by : Half → ℕ → Bool
+is_open_by half word = not (block_in half.old == block_in half.new) && (block_named word half.lba == block_in half.old)
+
 abbrev pub is_open : Half → Map → Bool
-is_open half map = not (block_in half.old == block_in half.new)
-    && (block_named (map half.lba) half.lba == block_in half.old)
+is_open half map = is_open_by half (map half.lba)
 
 -- a map with another entry for a sector
 abbrev pub with_entry : Map → ℕ → ℕ → Map

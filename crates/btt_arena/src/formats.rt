@@ -42,7 +42,9 @@ pub fn format<M: Media>(media: &mut M, sector: u32, uuid: &[u8; 16]) -> Result<u
     ensures formatted { IsTold M.MediaState media.old → OnOk result
         (IsFormatted (layout_of (length (M.bytes media.old)) sector) uuid.now (M.bytes media.old) (M.bytes media.new)) }
 
-    // Whatever the answer, by a stop at any moment.
+    // Whatever the answer, as the bytes stand then, and by a stop at any moment.
+    ensures so_far { IsTold M.MediaState media.old → IsInOrder (layout_of (length (M.bytes media.old)) sector) uuid.now
+        (M.bytes media.old) (M.bytes media.new) }
     ensures in_order { IsTold M.MediaState media.old → LeavesOnly M.MediaState media.old media.new
         (λ c. IsInOrder (layout_of (length (M.bytes media.old)) sector) uuid.now (M.bytes media.old) c.bytes) }
     ensures any_moment { IsTold M.MediaState media.old → arena_in (M.bytes media.old) ≡ None
@@ -71,6 +73,8 @@ fn write_parts<M: Media>(
     requires told { IsTold M.MediaState media.old → length (M.bytes media.old) ≡ layout.now.size }
     ensures formatted { IsTold M.MediaState media.old
         → OnOk result (IsFormatted layout.now uuid.now (M.bytes media.old) (M.bytes media.new)) }
+    ensures so_far { IsTold M.MediaState media.old
+        → IsInOrder layout.now uuid.now (M.bytes media.old) (M.bytes media.new) }
     ensures any_moment { IsTold M.MediaState media.old → LeavesOnly M.MediaState media.old media.new
         (IsStage layout.now uuid.now (M.bytes media.old)) }
     ensures goes_on { GoesOn M.MediaState media.old media.new }

@@ -15,7 +15,7 @@ const LANE_BYTES: usize = 64;
 pub const LOG_BYTES: usize = 16_384;
 
 /// What marks a block as that of a normal entry: bits 30 and 31.
-const NORMAL: u32 = 3 << 30;
+pub const NORMAL: u32 = 3 << 30;
 
 /// The lanes before the first write: each has its own free block behind the sectors.
 pub fn fresh_log(layout: &Layout) -> [u8; LOG_BYTES]

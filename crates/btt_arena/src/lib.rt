@@ -2,7 +2,9 @@
 //! table; and the media that holds the bytes, as a trait with a form in memory.
 #![tactic(auto)]
 
+mod completing;
 mod formats;
+mod halves;
 mod info;
 mod kept_writes;
 mod lanes;
@@ -10,7 +12,11 @@ mod layout;
 mod media;
 mod memory;
 mod opening;
+mod sectors;
+mod single_words;
 mod state;
+mod turns;
+mod writing;
 
 pub use formats::{FormatFault, format};
 pub use layout::{Layout, is_size};

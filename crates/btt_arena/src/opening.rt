@@ -1,20 +1,26 @@
 //! How an arena is found, and its lanes are looked at.
 
-ghost use Rattle.std.specs.Prelude.{◌≡◌, ◌+◌, ◌<◌, ◌≤◌, length, IfOk, IfSome};
+ghost use Rattle.std.specs.Prelude.{◌≡◌, ◌+◌, ◌<◌, ◌≤◌, length, nat_lt, is_some, is_none, IfOk};
+ghost use Rattle.std.specs.Prelude.{IfSome, IsTrue, OnOk};
 ghost use Rattle.std.specs.Result.{is_err};
 ghost use Rattle.btt_arena.specs.declared.opening.ArenaFault.TheVariants.{Failed};
-ghost use Rattle.btt_arena.specs.Frames.{IsTold, Reads, Fails};
+ghost use Rattle.byte_ranges.specs.Ranges.{range};
+ghost use Rattle.btt_arena.specs.Arena.{IsFit, content, held_by};
+ghost use Rattle.btt_arena.specs.Frames.{IsTold, Reads, GoesOn, Fails, LeavesOnly};
 ghost use Rattle.btt_arena.specs.Info.{arena_in};
 ghost use Rattle.btt_arena.specs.Layout.{IsLayout};
-ghost use Rattle.btt_arena.specs.Opening.{IsFirstWrong, Opens, half_of, is_half_right, is_lane_right, is_open_failed};
-ghost use Rattle.btt_arena.specs.Opening.{newer_of_log};
-ghost use Rattle.btt_arena.specs.Tables.{is_newer, newer_half};
+ghost use Rattle.btt_arena.specs.Opening.{AreRight, IsFirstWrong, IsNotOpened, IsOpened, IsOpening, Opens};
+ghost use Rattle.btt_arena.specs.Opening.{is_half_right, is_lane_right, is_open_failed, newer_of_log};
+ghost use Rattle.btt_arena.specs.Sectors.{GivesHeld, IsOldOrNew, IsRewritten, bytes_of, is_readable};
+ghost use Rattle.btt_arena.specs.Tables.{block_named, map_in};
 
-use crate::Media;
+use crate::completing::complete_lanes;
 use crate::formats::find_arena;
+use crate::halves::{Half, newer_half};
 use crate::lanes::LOG_BYTES;
 use crate::layout::{LANES, Layout, is_size};
-use byte_ranges::u32_at;
+use crate::{Media, sectors, writing};
+use std::marker::Model;
 
 /// The block of a word is its low 30 bits.
 const BLOCK_END: u32 = 1 << 30;
@@ -38,41 +44,143 @@ impl From<rig_trait::Failed> for ArenaFault {
     }
 }
 
-/// An arena that was found in a media.
+/// An arena that was found in a media. Contracts see its layout.
 #[derive(Clone, Copy, Debug, PartialEq, Eq)]
 pub struct Arena {
     layout: Layout,
 }
 
+impl Model for Arena {
+    ghost use Rattle.btt_arena.specs.declared.layout.Layout.{Layout};
+    ghost use Rattle.btt_arena.specs.Layout.{IsLayout};
+
+    ghost Value = { Layout };
+
+    ghost view = { λ arena. arena.layout };
+
+    ghost invariant = { λ arena. IsLayout arena.layout };
+
+    ghost inverse = { λ a. record { layout = a } };
+}
+
 impl Arena {
-    /// Finds the arena of a media, and looks at its lanes. It writes nothing: a lane that was left to complete stays so.
+    /// Finds the arena of a media, and completes in ascending order the lanes that a stop left open: those whose sector's
+    /// map entry still names the old block of the newer half, and not the new one. Nothing but such entries is written,
+    /// and none where it answers `NoArena` or `Lane`.
     pub fn open<M: Media>(media: &mut M) -> Result<Arena, ArenaFault>
         ensures answer { IsTold M.MediaState media.old → Opens (M.bytes media.old) result }
-        ensures layout { IfOk result (λ arena. IsLayout arena.layout) }
-        ensures reads_only { Reads M.MediaState media.old media.new }
+        ensures opened { IsTold M.MediaState media.old
+            → IfOk result (λ arena. IsOpened arena (M.bytes media.old) (M.bytes media.new)) }
+
+        // Whatever the answer, as the bytes stand then, and by a stop at any moment.
+        ensures so_far { IsTold M.MediaState media.old → IsOpening (M.bytes media.old) (M.bytes media.new) }
+        ensures any_moment { IsTold M.MediaState media.old → LeavesOnly M.MediaState media.old media.new
+            (λ c. IsOpening (M.bytes media.old) c.bytes) }
+
+        ensures refused { IsNotOpened result → Reads M.MediaState media.old media.new }
+        ensures goes_on { GoesOn M.MediaState media.old media.new }
         ensures cause { Fails M.MediaState media.old media.new (is_open_failed result) }
     {
-        let Some(layout) = stored_layout(media)? else {
-            return Err(ArenaFault::NoArena);
-        };
-        match wrong_lane(media, &layout)? {
-            Some(lane) => Err(ArenaFault::Lane { lane }),
-            None => Ok(Arena { layout }),
-        }
+        let mut log = [0; LOG_BYTES];
+        let layout = find_lanes(media, &mut log)?;
+        complete_lanes(media, &layout, &log)?;
+        Ok(Arena { layout })
+    }
+
+    /// Reads a sector: its number is below `blocks()`, and `into` has `sector()` bytes. `false`, with no word on what
+    /// `into` holds then, exactly where its map entry is that of a bad sector or names a block that isn't there. A media
+    /// that tells its bytes has the size of the one that was opened.
+    pub fn read_sector<M: Media>(
+        &self,
+        media: &mut M,
+        block: u32,
+        into: &mut [u8],
+    ) -> Result<bool, rig_trait::Failed>
+        requires block { block < self.now.sectors }
+        requires into { length into.old ≡ self.now.sector }
+        requires told { IsTold M.MediaState media.old → length (M.bytes media.old) ≡ self.now.size }
+        ensures answer { IsTold M.MediaState media.old
+            → IfOk result (λ read. read ≡ is_readable self.now (map_in self.now (M.bytes media.old) block) block) }
+        ensures bytes { IsTold M.MediaState media.old → IfOk result (λ read. IsTrue read
+            → into.new ≡ bytes_of self.now.sector
+            (held_by self.now (M.bytes media.old) (map_in self.now (M.bytes media.old) block) block)) }
+        // Of an arena that is fit it gives what the sector holds.
+        ensures content { IsTold M.MediaState media.old → IsFit self.now (M.bytes media.old)
+            → IfOk result (λ read. GivesHeld self.now.sector (content self.now (M.bytes media.old) block) read into.new) }
+        ensures reads_only { Reads M.MediaState media.old media.new }
+        ensures cause { Fails M.MediaState media.old media.new (is_err result) }
+    {
+        sectors::read_sector(media, &self.layout, block, into)
+    }
+
+    /// Writes a sector: its number is below `blocks()`, and there are `sector()` bytes. They go to the free block of the
+    /// lane of the sector's number, a note of that goes to the lane, and then the sector's map entry names the block.
+    /// `None`, with nothing written, exactly where that entry names a block that isn't there. A media that tells its
+    /// bytes has the size of the one that was opened. After an `Err` the arena is to be opened anew.
+    pub fn write_sector<M: Media>(
+        &mut self,
+        media: &mut M,
+        block: u32,
+        bytes: &[u8],
+    ) -> Result<Option<()>, rig_trait::Failed>
+        requires block { block < self.old.sectors }
+        requires bytes { length bytes.now ≡ self.old.sector }
+        requires told { IsTold M.MediaState media.old → length (M.bytes media.old) ≡ self.old.size }
+        ensures answer { IsTold M.MediaState media.old → IfOk result (λ written. is_some written
+            ≡ nat_lt (block_named (map_in self.old (M.bytes media.old) block) block) self.old.blocks) }
+        ensures unwritten { IfOk result (λ written. IsTrue (is_none written) → Reads M.MediaState media.old media.new) }
+
+        // Of an arena that is fit: at Ok it is fit again and this sector holds the bytes; whatever the answer, and by a
+        // stop at any moment, it is sound, and holds what it did or that with the bytes.
+        ensures written { IsTold M.MediaState media.old → IsFit self.old (M.bytes media.old) → OnOk result
+            (IsFit self.new (M.bytes media.new)
+            × IsRewritten self.old (M.bytes media.old) block bytes.now (M.bytes media.new)) }
+        ensures so_far { IsTold M.MediaState media.old → IsFit self.old (M.bytes media.old)
+            → IsOldOrNew self.old (M.bytes media.old) block bytes.now (M.bytes media.new) }
+        ensures any_moment { IsTold M.MediaState media.old → IsFit self.old (M.bytes media.old)
+            → LeavesOnly M.MediaState media.old media.new
+            (λ c. IsOldOrNew self.old (M.bytes media.old) block bytes.now c.bytes) }
+
+        ensures numbers { self.new ≡ self.old }
+        ensures goes_on { GoesOn M.MediaState media.old media.new }
+        ensures cause { Fails M.MediaState media.old media.new (is_err result) }
+    {
+        writing::write_sector(media, &self.layout, block, bytes)
     }
 
     /// How many sectors it has.
     pub fn blocks(&self) -> u32
-        ensures { result ≡ self.now.layout.sectors }
+        ensures { result ≡ self.now.sectors }
     {
         self.layout.sectors
     }
 
     /// The size of a sector, in bytes.
     pub fn sector(&self) -> u32
-        ensures { result ≡ self.now.layout.sector }
+        ensures { result ≡ self.now.sector }
     {
         self.layout.sector
+    }
+}
+
+/// The layout of the arena in a media, of which all lanes are right, with the bytes of its lanes.
+fn find_lanes<M: Media>(media: &mut M, log: &mut [u8; LOG_BYTES]) -> Result<Layout, ArenaFault>
+    ensures answer { IsTold M.MediaState media.old → Opens (M.bytes media.old) result }
+    ensures log { IsTold M.MediaState media.old
+        → IfOk result (λ a. log.new ≡ range (M.bytes media.old) a.log_at 16384) }
+    ensures size { IsTold M.MediaState media.old → IfOk result (λ a. a.size ≡ length (M.bytes media.old)) }
+    ensures layout { IfOk result IsLayout }
+    ensures right { IfOk result (λ a. AreRight a (newer_of_log log.new) 256) }
+    ensures reads_only { Reads M.MediaState media.old media.new }
+    ensures cause { Fails M.MediaState media.old media.new (is_open_failed result) }
+{
+    let Some(layout) = stored_layout(media)? else {
+        return Err(ArenaFault::NoArena);
+    };
+    media.read(layout.log_at, log)?;
+    match first_wrong(&layout, log) {
+        Some(lane) => Err(ArenaFault::Lane { lane }),
+        None => Ok(layout),
     }
 }
 
@@ -92,20 +200,6 @@ fn stored_layout<M: Media>(media: &mut M) -> Result<Option<Layout>, rig_trait::F
     find_arena(media, size)
 }
 
-/// The first lane that isn't right.
-fn wrong_lane<M: Media>(media: &mut M, layout: &Layout) -> Result<Option<u32>, rig_trait::Failed>
-    requires layout { IsLayout layout.now }
-    requires told { IsTold M.MediaState media.old → length (M.bytes media.old) ≡ layout.now.size }
-    ensures first { IsTold M.MediaState media.old
-        → IfOk result (IsFirstWrong layout.now (newer_half layout.now (M.bytes media.old))) }
-    ensures reads_only { Reads M.MediaState media.old media.new }
-    ensures cause { Fails M.MediaState media.old media.new (is_err result) }
-{
-    let mut log = [0; LOG_BYTES];
-    media.read(layout.log_at, &mut log)?;
-    Ok(first_wrong(layout, &log))
-}
-
 /// The first lane that isn't right, by the bytes of all.
 fn first_wrong(layout: &Layout, log: &[u8; LOG_BYTES]) -> Option<u32>
     ensures { IsFirstWrong layout.now (newer_of_log log.now) result }
@@ -123,35 +217,17 @@ fn is_right(layout: &Layout, log: &[u8; LOG_BYTES], lane: u32) -> bool
     requires { lane < 256 }
     ensures { result ≡ is_lane_right layout.now (newer_of_log log.now lane) }
 {
-    let first = 64 * lane as usize;
-    let second = first + 16;
-    let seq = u32_at(log, first + 12);
-    let other = u32_at(log, second + 12);
-    if is_newer(seq, other) {
-        return is_half_right(layout, log, first);
+    match newer_half(log, 64 * lane as usize) {
+        Some(half) => is_half_right(layout, &half),
+        None => false,
     }
-    if is_newer(other, seq) {
-        return is_half_right(layout, log, second);
-    }
-    false
 }
 
-/// Whether a half with the first number is newer than that with the other one.
-fn is_newer(seq: u32, other: u32) -> bool
-    ensures { result ≡ is_newer seq other }
+/// Whether a half notes a sector of the arena, and two blocks of it.
+fn is_half_right(layout: &Layout, half: &Half) -> bool
+    ensures { result ≡ is_half_right layout.now half.now }
 {
-    (other == 1 && seq == 2)
-        || (other == 2 && seq == 3)
-        || (other == 3 && seq == 1)
-        || (other == 0 && seq >= 1 && seq <= 3)
-}
-
-/// Whether the half at an offset notes a sector of the arena, and two blocks of it.
-fn is_half_right(layout: &Layout, log: &[u8; LOG_BYTES], at: usize) -> bool
-    requires { at + 16 ≤ 16384 }
-    ensures { result ≡ is_half_right layout.now (half_of log.now at) }
-{
-    u32_at(log, at) < layout.sectors
-        && u32_at(log, at + 4) % BLOCK_END < layout.blocks
-        && u32_at(log, at + 8) % BLOCK_END < layout.blocks
+    half.lba < layout.sectors
+        && half.old % BLOCK_END < layout.blocks
+        && half.new % BLOCK_END < layout.blocks
 }

@@ -76,3 +76,30 @@ returns-clause-any_moment g c told none =
     let P = IsNoneOrFresh (layout_of (length before) c.args.sector) before in
     joined (reading P (λ r at fair. inl (ap arena_in at ∙ none)) c.in_ok-layout.ensures.reads_only)
     (weakened (IsStage (layout_of (length before) c.args.sector) uuid before) P (λ r has. has.made none) whole)
+
+pub returns-in_err-write_parts-clause-so_far : goal.returns-in_err-write_parts-clause-so_far
+returns-in_err-write_parts-clause-so_far g c told =
+    let m = g.M.MediaState in
+    let before = m.bytes c.args.media.now in
+    let after = m.bytes c.write_parts.new.media in
+    let uuid = c.args.uuid.now in
+    let a = layout_of (length before) c.args.sector in
+    let is : c.in_ok-layout.layout ≡ a = c.in_ok-layout.ensures.exact told in
+    let same : m.bytes c.vacant_layout.new.media ≡ before = c.in_ok-layout.ensures.reads_only.bytes in
+    let here : IsInOrder c.in_ok-layout.layout uuid before after = subst (λ (b : List ℕ). IsInOrder c.in_ok-layout.layout uuid b after) same (c.write_parts.ensures.so_far (c.in_ok-layout.ensures.reads_only.goes_on.tells ∙ told)) in
+    subst (λ (b : Layout). IsInOrder b uuid before after) is here
+
+pub returns-clause-so_far : goal.returns-clause-so_far
+returns-clause-so_far g c told =
+    let m = g.M.MediaState in
+    let before = m.bytes c.args.media.now in
+    let after = m.bytes c.write_parts.new.media in
+    let uuid = c.args.uuid.now in
+    let a = layout_of (length before) c.args.sector in
+    let is : c.in_ok-layout.layout ≡ a = c.in_ok-layout.ensures.exact told in
+    let same : m.bytes c.vacant_layout.new.media ≡ before = c.in_ok-layout.ensures.reads_only.bytes in
+    let here : IsInOrder c.in_ok-layout.layout uuid before after = subst (λ (b : List ℕ). IsInOrder c.in_ok-layout.layout uuid b after) same (c.write_parts.ensures.so_far (c.in_ok-layout.ensures.reads_only.goes_on.tells ∙ told)) in
+    subst (λ (b : Layout). IsInOrder b uuid before after) is here
+
+pub returns-in_err-layout-clause-so_far : goal.returns-in_err-layout-clause-so_far
+returns-in_err-layout-clause-so_far g c told = writing_map (same_bytes _ _ _ _ c.in_err-layout.ensures.reads_only.bytes)
