@@ -53,7 +53,7 @@ loop-index-preserved g c =
 
 pub returns-in_err-is_refused-clause-ends : goal.returns-in_err-is_refused-clause-ends
 returns-in_err-is_refused-clause-ends g c =
-    let p = err_from_is_err_and c.from_residual-in_err-is_refused.result c.from_residual-in_err-is_refused.ensures.1 in
+    let p = err_from_is_err_and c.from_residual.result c.from_residual.ensures.1 in
     rw (p.1, p.2)
     (cut-short g.R.Shown c.args.session.now c.args.seed (map (λ line. line.now) c.args.lines.now) c.args.rig.now c.loop-index.index c.loop-index.session c.loop-index.rig c.loop-index.refused c.loop-index.invariant
     (get_or c.args.lines.now c.loop-index.index no_line).now (next-is c.args.lines.now c.loop-index.index c.loop-index-test.true) c.turn.new.session c.turn.new.rig c.in_err-is_refused.field-0.0 c.in_err-is_refused.ensures)
@@ -65,7 +65,7 @@ returns-in_err-is_refused-clause-any_moment g c =
 
 pub returns-in_err-is_refused-clause-bytes : goal.returns-in_err-is_refused-clause-bytes
 returns-in_err-is_refused-clause-bytes g c =
-    let p = err_from_is_err_and c.from_residual-in_err-is_refused.result c.from_residual-in_err-is_refused.ensures.1 in
+    let p = err_from_is_err_and c.from_residual.result c.from_residual.ensures.1 in
     rw (p.1, p.2)
     (bytes-on g.R.Shown c.args.session.now c.args.seed (map (λ line. line.now) c.args.lines.now) c.args.rig.now c.loop-index.index c.loop-index.session c.loop-index.rig c.loop-index.refused c.loop-index.invariant
     (get_or c.args.lines.now c.loop-index.index no_line).now (next-is c.args.lines.now c.loop-index.index c.loop-index-test.true) c.turn.new.session c.turn.new.rig (Err c.in_err-is_refused.field-0.0) c.in_err-is_refused.ensures)
